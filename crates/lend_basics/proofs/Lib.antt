@@ -1,0 +1,5 @@
+pub mod Bools
+pub mod Rights
+pub mod Lists
+pub mod Loops
+pub mod Pigeon

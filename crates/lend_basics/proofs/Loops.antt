@@ -1,0 +1,102 @@
+-- What a loop has done after k turns, once for each shape of loop: it builds a list, counts, tests every number.
+use mathlib.Core.Path.{_≡_, refl, sym, subst, ap, _∙_}
+use mathlib.Core.Bool.{Bool, true, false, _&&_, cond}
+use mathlib.Core.List.{List}
+use Prim.Native.Nat.{ℕ, zero, suc, _+_, _≤_, _<_}
+use native.Mathlib.Nat.{not-suc-le-zero, lt-irrefl}
+use native.Mathlib.Numerals.{add-one}
+use native.Mathlib.Omega.{arith}
+use lib.Dec.{T}
+use lib.ListN.{length, getD, set, length-set}
+use lib.Seq.{ext-getD, getD-set-same, getD-set-other}
+use borrow.Author.Count.{below-more}
+use Rattle.lend.specs.Lists.{every, count, tabulate}
+use Rattle.lend_basics.proofs.Bools.{is-true, is-false}
+use Rattle.lend_basics.proofs.Rights.{each}
+use Rattle.lend_basics.proofs.Lists.{length-tabulate, tabulate-at}
+
+-- ── a list is built ──────────────────────────────────────────────────────
+-- of n elements the first k are g's; d is what a read past the end gives
+pub record Built {A : Type 0} (d : A) (n : ℕ) (g : ℕ → A) (out : List A) (k : ℕ) : Type 0 where
+  pub long : length out ≡ n
+  pub done : (j : ℕ) → j < k → getD out j d ≡ g j
+
+module _ {A : Type 0} (d : A) (n : ℕ) (g : ℕ → A) where
+  pub built-none : (out : List A) → length out ≡ n → Built d n g out 0
+  built-none out e = record { long = e; done = λ j h. absurd (not-suc-le-zero h) }
+
+  pub built-more : (out : List A) (k : ℕ) (v : A) → Built d n g out k → k < n → v ≡ g k → Built d n g (set out k v) (k + 1)
+  built-more out k v b h e = record {
+    long = length-set out k v ∙ b .long;
+    done = below-more (λ (j : ℕ). getD (set out k v) j d ≡ g j) k
+        (λ j l. getD-set-other out k j v d (λ q. lt-irrefl k (subst (λ (m : ℕ). m < k) q l)) ∙ b .done j l)
+        (getD-set-same out k v d (omega (arith, b .long)) ∙ e);
+  }
+
+  -- a turn that only writes again where nothing is settled yet
+  pub built-same : (out : List A) (k i : ℕ) (v : A) → Built d n g out k → k ≤ i → Built d n g (set out i v) k
+  built-same out k i v b h = record {
+    long = length-set out i v ∙ b .long;
+    done = λ j l. getD-set-other out i j v d (λ q. lt-irrefl k (omega arith)) ∙ b .done j l;
+  }
+
+  pub built-all : (out : List A) (k : ℕ) → Built d n g out k → n ≤ k → out ≡ tabulate n g
+  built-all out k b h =
+      ext-getD d out (tabulate n g) (b .long ∙ sym (length-tabulate g n))
+      (λ j l. b .done j (omega (arith, b .long)) ∙ sym (tabulate-at g n j d (omega (arith, b .long))))
+
+-- ── a list is changed in place ───────────────────────────────────────────
+-- below k the elements are g's, from k on they are still the old ones
+pub record Changed {A : Type 0} (d : A) (g : ℕ → A) (old out : List A) (k : ℕ) : Type 0 where
+  pub long : length out ≡ length old
+  pub done : (j : ℕ) → j < k → getD out j d ≡ g j
+  pub left : (j : ℕ) → k ≤ j → getD out j d ≡ getD old j d
+
+module _ {A : Type 0} (d : A) (g : ℕ → A) (old : List A) where
+  pub changed-none : Changed d g old old 0
+  changed-none = record { long = refl; done = λ j h. absurd (not-suc-le-zero h); left = λ j h. refl }
+
+  pub changed-more : (out : List A) (k : ℕ) (v : A) → Changed d g old out k → k < length old → v ≡ g k → Changed d g old (set out k v) (k + 1)
+  changed-more out k v b h e = record {
+    long = length-set out k v ∙ b .long;
+    done = below-more (λ (j : ℕ). getD (set out k v) j d ≡ g j) k
+        (λ j l. getD-set-other out k j v d (λ q. lt-irrefl k (subst (λ (m : ℕ). m < k) q l)) ∙ b .done j l)
+        (getD-set-same out k v d (omega (arith, b .long)) ∙ e);
+    left = λ j l. getD-set-other out k j v d (λ q. lt-irrefl k (omega arith)) ∙ b .left j (omega arith);
+  }
+
+  pub changed-all : (out : List A) (k : ℕ) → Changed d g old out k → length old ≤ k → out ≡ tabulate (length old) g
+  changed-all out k b h =
+      ext-getD d out (tabulate (length old) g) (b .long ∙ sym (length-tabulate g (length old)))
+      (λ j l. b .done j (omega (arith, b .long)) ∙ sym (tabulate-at g (length old) j d (omega (arith, b .long))))
+
+-- ── numbers are counted ──────────────────────────────────────────────────
+-- n of the first k numbers pass the test
+pub record Counted (t : ℕ → Bool) (n k : ℕ) : Type 0 where
+  pub is : n ≡ count k t
+  pub small : n ≤ k
+
+pub counted-none : (t : ℕ → Bool) → Counted t 0 0
+unfolding count
+counted-none t = record { is = refl; small = omega arith }
+
+module _ (t : ℕ → Bool) (n k : ℕ) (c : Counted t n k) where
+  pub counted-yes : t k ≡ true → Counted t (n + 1) (k + 1)
+  unfolding count
+  counted-yes e = record { is = rw (add-one k, e) (omega (arith, c .is)); small = omega (arith, c .small) }
+
+  pub counted-no : t k ≡ false → Counted t n (k + 1)
+  unfolding count
+  counted-no e = record { is = rw (add-one k, e) (omega (arith, c .is)); small = omega (arith, c .small) }
+
+-- ── every number is tested ───────────────────────────────────────────────
+module _ (t : ℕ → Bool) where
+  pub every-more : {k : ℕ} → every k t ≡ true → t k ≡ true → every (k + 1) t ≡ true
+  every-more {k} a e = rw (add-one k, e, a)
+
+  -- one that fails settles it
+  pub every-not : (n k : ℕ) → k < n → t k ≡ false → every n t ≡ false
+  every-not n k l e = is-false (every n t) (λ h. let x : T (t k) = each n t h k l in (rw e at x))
+
+  pub every-at : (n k : ℕ) → every n t ≡ true → k < n → t k ≡ true
+  every-at n k a l = is-true (t k) (each n t (rw a tt) k l)

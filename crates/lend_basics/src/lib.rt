@@ -1,0 +1,1 @@
+// Laws on tests, rights and lists, in proofs/; no code.
