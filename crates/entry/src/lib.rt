@@ -1,0 +1,24 @@
+// The board of this model: its types, the walk along all lines, and the test of soundness.
+pub mod cache;
+pub mod lines;
+pub mod rights;
+pub mod sizes;
+
+use lend::Place;
+use lend::Slot;
+use sizes::PLACES;
+use sizes::SLOTS;
+use sizes::SPACES;
+
+// The cache of translations: its places, and the next one to replace.
+pub struct Cache {
+    pub places: [Place; PLACES],
+    pub next: u8,
+}
+
+// The slot of each page, space by space; which spaces are live; the cache.
+pub struct Board {
+    pub slots: [Slot; SLOTS],
+    pub live: [bool; SPACES],
+    pub cache: Cache,
+}
