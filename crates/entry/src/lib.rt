@@ -1,8 +1,8 @@
 // The board of this model: its types, the walk along all lines, and the test of soundness.
-pub mod cache;
 pub mod lines;
 pub mod rights;
 pub mod sizes;
+pub mod tlb;
 
 use lend::Place;
 use lend::Slot;

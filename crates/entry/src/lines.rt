@@ -6,7 +6,7 @@ use lend::Link;
 use lend::Slot;
 ghost use mathlib.Core.Path.{_≡_};
 ghost use Rattle.lend.specs.Sizes.{key as keyOf};
-ghost use Rattle.lend_code.specs.Inner.{upOf, lineHas};
+ghost use Rattle.lend_code.specs.Inner.{upOf, insideOf, lineHas};
 ghost use Rattle.entry.specs.Sizes.{sizes};
 
 // The number of a page.
@@ -25,6 +25,16 @@ pub fn parent(link: Link) -> usize
         Link::Frame(_) => SLOTS,
         Link::Page(space, page) => key(space, page),
     }
+}
+
+// The page itself where it is in the table, else the first one: a read that needs no branch.
+pub fn inside(k: usize) -> usize
+    ensures { λ r. ⌜ r ≡ insideOf sizes k ⌝ }
+{
+    if k < SLOTS {
+        return k;
+    }
+    0
 }
 
 // For each page, whether a page on its line is in the set. One turn visits one page of the line of page k.

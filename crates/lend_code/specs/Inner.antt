@@ -3,7 +3,7 @@ use Prim.Native.Nat.{ℕ}
 use mathlib.Core.Bool.{Bool, false, not, _&&_, cond}
 use mathlib.Core.List.{List}
 use lib.ListN.{length, getD}
-use lib.Dec.{eqb}
+use lib.Dec.{eqb, ltb}
 use Rattle.lend.specs.declared.Link.{Link}
 use Rattle.lend.specs.declared.Link.the-variants.{Nothing, Frame, Page}
 use Rattle.lend.specs.declared.Slot.{Slot}
@@ -18,6 +18,10 @@ abbrev pub upOf : Sizes → Link → ℕ
 upOf z Nothing = slotCount z
 upOf z (Frame i) = slotCount z
 upOf z (Page s p) = key z s p
+
+-- a page of the table itself, for any other the first one
+abbrev pub insideOf : Sizes → ℕ → ℕ
+insideOf z k = cond (ltb k (slotCount z)) k 0
 
 -- a set of pages as a list of tests, false past its end
 abbrev pub has : List Bool → ℕ → Bool

@@ -1,12 +1,12 @@
 // The cache of translations: a value that a method takes and hands back.
 use crate::Cache;
+use crate::lines::inside;
 use crate::lines::key;
 use crate::sizes::PLACES;
 use crate::sizes::SLOTS;
 use lend::Place;
 ghost use mathlib.Core.Path.{_≡_};
 ghost use Rattle.lend.specs.Cache.{names as namesOf, placeFor};
-ghost use Rattle.lend_code.specs.Inner.{lostIn};
 ghost use Rattle.entry.specs.Cache.{dropEntry, dropLost};
 
 // Whether the place is filled for the page.
@@ -31,16 +31,6 @@ pub fn place_for(places: [Place; PLACES], space: u8, page: u8) -> usize
     PLACES
 }
 
-// Whether the page lost a right between the one array of rights and the other.
-fn lost(before: [u8; SLOTS], after: [u8; SLOTS], k: usize) -> bool
-    ensures { λ r. ⌜ r ≡ lostIn before after k ⌝ }
-{
-    if k < SLOTS {
-        return !lend::within(before[k], after[k]);
-    }
-    false
-}
-
 impl Cache {
     // The place gets the empty form; the others and the next place to replace stay.
     pub fn drop_entry(mut self, place: usize) -> Self
@@ -60,7 +50,9 @@ impl Cache {
         while i < PLACES {
             let place = self.places[i];
             let k = key(place.space, place.page);
-            if lost(before, after, k) {
+            let at = inside(k);
+            let lost = !lend::within(before[at], after[at]);
+            if (k < SLOTS) & lost {
                 self = self.drop_entry(i);
             }
             i += 1;
