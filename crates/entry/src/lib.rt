@@ -2,6 +2,7 @@
 pub mod lines;
 pub mod rights;
 pub mod sizes;
+pub mod sound;
 pub mod tlb;
 
 use lend::Place;

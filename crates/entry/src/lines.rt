@@ -6,7 +6,7 @@ use lend::Link;
 use lend::Slot;
 ghost use mathlib.Core.Path.{_≡_};
 ghost use Rattle.lend.specs.Sizes.{key as keyOf};
-ghost use Rattle.lend_code.specs.Inner.{upOf, insideOf, lineHas};
+ghost use Rattle.lend_code.specs.Inner.{upOf, insideOf, lineHas, frameIn, Fitting, Ended};
 ghost use Rattle.entry.specs.Sizes.{sizes};
 
 // The number of a page.
@@ -61,4 +61,57 @@ pub fn line_has(slots: [Slot; SLOTS], set: [bool; SLOTS]) -> [bool; SLOTS]
         }
     }
     found
+}
+
+// The frame that a link leads to directly, 0 where it leads to none.
+fn frame_in(link: Link) -> u8
+    ensures { λ r. ⌜ r ≡ frameIn link ⌝ }
+{
+    match link {
+        Link::Nothing => 0,
+        Link::Frame(frame) => frame,
+        Link::Page(_, _) => 0,
+    }
+}
+
+// What a walk along all lines finds: whether each is of the right kind, and the frame at its end.
+pub struct Ends {
+    pub rooted: bool,
+    pub frames: [u8; SLOTS],
+}
+
+// Whether the line of each held page reaches space 0 with no other page in that page's space, and the frame at its end.
+// Every slot fits its page already. One turn visits one page of the line of page k.
+pub(crate) fn line_ends(slots: [Slot; SLOTS]) -> Ends
+    requires { ⌜ Fitting sizes slots ⌝ }
+    ensures { λ r. ⌜ Ended sizes slots (r .rooted) (r .frames) ⌝ }
+{
+    let mut frames = [0u8; SLOTS];
+    let mut k: usize = 0;
+    let mut at: usize = 0;
+    let mut left: usize = SPACES;
+    while k < SLOTS {
+        let slot = slots[at];
+        let link = slot.link;
+        let up = parent(link);
+        if up < SLOTS {
+            if (left <= 1) | (up / PAGES == k / PAGES) {
+                return Ends {
+                    rooted: false,
+                    frames,
+                };
+            }
+            at = up;
+            left -= 1;
+        } else {
+            frames[k] = frame_in(link);
+            k += 1;
+            at = k;
+            left = SPACES;
+        }
+    }
+    Ends {
+        rooted: true,
+        frames,
+    }
 }

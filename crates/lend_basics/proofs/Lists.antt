@@ -38,11 +38,22 @@ pub member-map : (h : ℕ → ℕ) (q : ℕ) (xs : List ℕ) → T (member q xs)
 member-map h q xs m = rw (any-map h (λ x. eqb x (h q)) xs) (any-of (λ x. eqb (h x) (h q)) q xs m (eqb-refl (h q)))
 
 -- ── every and some ───────────────────────────────────────────────────────
+pub each : (n : ℕ) (t : ℕ → Bool) → T (every n t) → (k : ℕ) → k < n → T (t k)
+unfolding every
+each zero t h k l = absurd (not-suc-le-zero l)
+each (suc n) t h k l = pick (each n t (and-r (t n) (every n t) h) k) (eq-or-lt-of-le (le-of-suc-le-suc l))
+  where
+    pick : (k < n → T (t k)) → (k ≡ n) ⊎ (k < n) → T (t k)
+    pick rest (inl e) = rw e (and-l (t n) (every n t) h)
+    pick rest (inr m) = rest m
+
 pub every-of : (n : ℕ) (t : ℕ → Bool) → ((k : ℕ) → k < n → T (t k)) → T (every n t)
+unfolding every
 every-of zero t h = tt
 every-of (suc n) t h = and-i (t n) (every n t) (h n (omega arith)) (every-of n t (λ k l. h k (omega arith)))
 
 pub some-of : (n : ℕ) (t : ℕ → Bool) (k : ℕ) → k < n → T (t k) → T (some n t)
+unfolding some
 some-of zero t k l h = absurd (not-suc-le-zero l)
 some-of (suc n) t k l h = go (λ m. some-of n t k m h) (eq-or-lt-of-le (le-of-suc-le-suc l))
   where
@@ -51,6 +62,7 @@ some-of (suc n) t k l h = go (λ m. some-of n t k m h) (eq-or-lt-of-le (le-of-su
     go rest (inr m) = or-r (t n) (some n t) (rest m)
 
 pub some-one : (n : ℕ) (t : ℕ → Bool) → T (some n t) → (k : ℕ) × (k < n) × T (t k)
+unfolding some
 some-one zero t h = absurd h
 some-one (suc n) t h = go (some-one n t) (or-cases (t n) (some n t) h)
   where

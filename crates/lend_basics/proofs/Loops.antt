@@ -12,8 +12,7 @@ use lib.Seq.{ext-getD, getD-set-same, getD-set-other}
 use borrow.Author.Count.{below-more}
 use Rattle.lend.specs.Lists.{every, count, tabulate}
 use Rattle.lend_basics.proofs.Bools.{is-true, is-false}
-use Rattle.lend_basics.proofs.Rights.{each}
-use Rattle.lend_basics.proofs.Lists.{length-tabulate, tabulate-at}
+use Rattle.lend_basics.proofs.Lists.{length-tabulate, tabulate-at, each, every-of}
 
 -- ── a list is built ──────────────────────────────────────────────────────
 -- of n elements the first k are g's; d is what a read past the end gives
@@ -90,13 +89,22 @@ module _ (t : ℕ → Bool) (n k : ℕ) (c : Counted t n k) where
   counted-no e = record { is = rw (add-one k, e) (omega (arith, c .is)); small = omega (arith, c .small) }
 
 -- ── every number is tested ───────────────────────────────────────────────
+-- the test passes at the first k numbers
+pub record Tested (t : ℕ → Bool) (k : ℕ) : Type 0 where
+  pub all : every k t ≡ true
+
 module _ (t : ℕ → Bool) where
-  pub every-more : {k : ℕ} → every k t ≡ true → t k ≡ true → every (k + 1) t ≡ true
-  every-more {k} a e = rw (add-one k, e, a)
+  pub tested-none : Tested t 0
+  unfolding every
+  tested-none = record { all = refl }
+
+  pub tested-more : (k : ℕ) → Tested t k → t k ≡ true → Tested t (k + 1)
+  unfolding every
+  tested-more k a e = record { all = rw (add-one k, e, a .all) }
 
   -- one that fails settles it
-  pub every-not : (n k : ℕ) → k < n → t k ≡ false → every n t ≡ false
-  every-not n k l e = is-false (every n t) (λ h. let x : T (t k) = each n t h k l in (rw e at x))
+  pub tested-not : (n k : ℕ) → k < n → t k ≡ false → every n t ≡ false
+  tested-not n k l e = is-false (every n t) (λ h. let x : T (t k) = each n t h k l in (rw e at x))
 
-  pub every-at : (n k : ℕ) → every n t ≡ true → k < n → t k ≡ true
-  every-at n k a l = is-true (t k) (each n t (rw a tt) k l)
+  pub tested-all : (n k : ℕ) → Tested t k → n ≤ k → every n t ≡ true
+  tested-all n k a l = is-true (every n t) (every-of n t (λ j m. each k t (rw (a .all) tt) j (omega arith)))

@@ -1,28 +1,32 @@
 -- The laws of rights, over 0 to 7, each by one test that antt computes.
 use mathlib.Core.Path.{_≡_, refl}
-use mathlib.Core.Bool.{Bool, not, _&&_}
+use mathlib.Core.Bool.{Bool, true, not, _&&_}
 use Prim.Native.Nat.{ℕ, zero, suc, _≤_, _<_}
 use native.Mathlib.Nat.{le-of-suc-le-suc, not-suc-le-zero, eq-or-lt-of-le}
 use mathlib.Core.Logic.{_⊎_, inl, inr}
 use lib.Dec.{T, ltb, eqb, eqb→eq, ltb→lt}
 use lib.Bits.{bitOr}
 use Rattle.lend.specs.Rights.{less, within}
-use Rattle.lend.specs.Lists.{every}
 use Rattle.lend_basics.proofs.Bools.{and-l, and-r, implies, implied}
 
-pub each : (n : ℕ) (t : ℕ → Bool) → T (every n t) → (k : ℕ) → k < n → T (t k)
+-- the test passes at every number below n, to be computed
+abbrev passes : ℕ → (ℕ → Bool) → Bool
+passes zero t = true
+passes (suc n) t = t n && passes n t
+
+each : (n : ℕ) (t : ℕ → Bool) → T (passes n t) → (k : ℕ) → k < n → T (t k)
 each zero t h k l = absurd (not-suc-le-zero l)
-each (suc n) t h k l = pick (each n t (and-r (t n) (every n t) h) k) (eq-or-lt-of-le (le-of-suc-le-suc l))
+each (suc n) t h k l = pick (each n t (and-r (t n) (passes n t) h) k) (eq-or-lt-of-le (le-of-suc-le-suc l))
   where
     pick : (k < n → T (t k)) → (k ≡ n) ⊎ (k < n) → T (t k)
-    pick rest (inl e) = rw e (and-l (t n) (every n t) h)
+    pick rest (inl e) = rw e (and-l (t n) (passes n t) h)
     pick rest (inr m) = rest m
 
-each2 : (t : ℕ → ℕ → Bool) → T (every 8 (λ a. every 8 (t a))) → (a b : ℕ) → a < 8 → b < 8 → T (t a b)
-each2 t h a b la lb = each 8 (t a) (each 8 (λ x. every 8 (t x)) h a la) b lb
+each2 : (t : ℕ → ℕ → Bool) → T (passes 8 (λ a. passes 8 (t a))) → (a b : ℕ) → a < 8 → b < 8 → T (t a b)
+each2 t h a b la lb = each 8 (t a) (each 8 (λ x. passes 8 (t x)) h a la) b lb
 
-each3 : (t : ℕ → ℕ → ℕ → Bool) → T (every 8 (λ a. every 8 (λ b. every 8 (t a b)))) → (a b c : ℕ) → a < 8 → b < 8 → c < 8 → T (t a b c)
-each3 t h a b c la lb lc = each2 (t a) (each 8 (λ x. every 8 (λ y. every 8 (t x y))) h a la) b c lb lc
+each3 : (t : ℕ → ℕ → ℕ → Bool) → T (passes 8 (λ a. passes 8 (λ b. passes 8 (t a b)))) → (a b c : ℕ) → a < 8 → b < 8 → c < 8 → T (t a b c)
+each3 t h a b c la lb lc = each2 (t a) (each 8 (λ x. passes 8 (λ y. passes 8 (t x y))) h a la) b c lb lc
 
 -- the rights of d and those of e
 unfoldable pub join : ℕ → ℕ → ℕ

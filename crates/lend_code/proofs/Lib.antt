@@ -1,1 +1,4 @@
 pub mod Walks
+pub mod Fits
+pub mod Ends
+pub mod QuickLines

@@ -1,17 +1,22 @@
 -- What the inner functions of a model's code compute. Only their contracts speak of these; no caller has to read them.
-use Prim.Native.Nat.{ℕ}
-use mathlib.Core.Bool.{Bool, false, not, _&&_, cond}
+use Prim.Native.Nat.{ℕ, _-_, _<_}
+use mathlib.Core.Path.{_≡_}
+use mathlib.Core.Bool.{Bool, true, false, not, _&&_, _||_, cond}
 use mathlib.Core.List.{List}
 use lib.ListN.{length, getD}
-use lib.Dec.{eqb, ltb}
+use lib.Dec.{T, eqb, ltb, leb}
 use Rattle.lend.specs.declared.Link.{Link}
 use Rattle.lend.specs.declared.Link.the-variants.{Nothing, Frame, Page}
 use Rattle.lend.specs.declared.Slot.{Slot}
-use Rattle.lend.specs.Sizes.{Sizes, slotCount, key}
-use Rattle.lend.specs.Rights.{less, within}
-use Rattle.lend.specs.Lists.{any, count, tabulate}
-use Rattle.lend.specs.Slots.{slotAt, withRights}
-use Rattle.lend.specs.Line.{lineOf}
+use Rattle.lend.specs.declared.Place.{Place}
+use Rattle.lend.specs.Sizes.{Sizes, slotCount, key, spaceOf, inPool}
+use Rattle.lend.specs.Rights.{allRights, less, within}
+use Rattle.lend.specs.Lists.{any, every, count, tabulate}
+use Rattle.lend.specs.Slots.{Table, slotAt, held, withRights}
+use Rattle.lend.specs.Tables.{alive}
+use Rattle.lend.specs.Line.{line, lineOf, frameOf}
+use Rattle.lend.specs.Cache.{filled, pageNamed, placeAt, placeFor}
+use Rattle.lend.specs.SoundTest.{slotTest, isEmptyPlace}
 
 -- the page that a link leads to, or the number of all pages where it leads to none
 abbrev pub upOf : Sizes → Link → ℕ
@@ -54,3 +59,55 @@ lostAll z before after = count (slotCount z) (λ k. not (eqb (getD before k 0) 0
 -- page k has lost a right
 abbrev pub lostIn : List ℕ → List ℕ → ℕ → Bool
 lostIn before after k = not (within (getD before k 0) (getD after k 0))
+
+-- ── the test of soundness ────────────────────────────────────────────────
+-- lentTest, where the parent's slot is at hand
+unfoldable pub lentFits : Sizes → List Bool → Slot → ℕ → ℕ → ℕ → ℕ → Bool
+lentFits z live up k r s p =
+    alive live (spaceOf z k) && ltb s (z .spaces) && ltb p (z .pages) && alive live s && held up && leb 1 r && leb r allRights
+    && within r (up .rights)
+
+-- linkTest, where the parent's slot is at hand
+abbrev pub linkFits : Sizes → List Bool → Slot → ℕ → ℕ → Link → Bool
+linkFits z live up k r Nothing = not (inPool z k) && eqb r 0
+linkFits z live up k r (Frame i) = inPool z k && eqb i k && eqb r allRights
+linkFits z live up k r (Page s p) = not (inPool z k) && lentFits z live up k r s p
+
+-- every slot fits its page, for some live spaces
+pub record Fitting (z : Sizes) (b : List Slot) : Type 0 where
+  pub live : List Bool
+  pub fits : (k : ℕ) → k < slotCount z → T (slotTest z live (slotAt b) k)
+
+-- the frame that a link leads to directly, 0 where it leads to none
+abbrev pub frameIn : Link → ℕ
+frameIn Nothing = 0
+frameIn (Frame i) = i
+frameIn (Page s p) = 0
+
+-- the line above page k, with n pages left to visit from k on, comes to space 0 and has no page in the space of k
+abbrev pub restOk : Sizes → Table → ℕ → ℕ → Link → Bool
+restOk z f k n Nothing = true
+restOk z f k n (Frame i) = true
+restOk z f k n (Page s p) =
+    any (inPool z) (line z f (n - 1) (key z s p)) && not (any (λ q. eqb (spaceOf z q) (spaceOf z k)) (line z f (n - 1) (key z s p)))
+
+unfoldable pub quickLine : Sizes → Table → ℕ → Bool
+quickLine z f k = restOk z f k (z .spaces) (f k .link)
+
+-- what the walk along all lines finds: whether every line is of the right kind, and if so each page's frame
+pub record Ended (z : Sizes) (b : List Slot) (rooted : Bool) (frames : List ℕ) : Type 0 where
+  pub all-rooted : rooted ≡ every (slotCount z) (quickLine z (slotAt b))
+  pub all-frames : rooted ≡ true → frames ≡ tabulate (slotCount z) (λ k. frameOf z (slotAt b) k)
+
+-- the place names a page with these rights and this frame
+unfoldable pub placeFits : Sizes → ℕ → ℕ → Place → Bool
+placeFits z r frame q = filled q && ltb (q .space) (z .spaces) && ltb (q .page) (z .pages) && eqb (q .frame) frame && eqb (q .rights) r
+
+-- place i fits, by arrays of all pages' rights and frames
+unfoldable pub placeOk : Sizes → List ℕ → List ℕ → List Place → ℕ → Place → Bool
+placeOk z rights frames c i q =
+    isEmptyPlace q
+    || (placeFits z (getD rights (insideOf z (pageNamed z q)) 0) (getD frames (insideOf z (pageNamed z q)) 0) q && eqb (placeFor (q .space) (q .page) c) i)
+
+unfoldable pub placesFit : Sizes → List ℕ → List ℕ → List Place → Bool
+placesFit z rights frames c = every (z .places) (λ i. placeOk z rights frames c i (placeAt c i))

@@ -1,0 +1,5 @@
+pub mod Lines
+pub mod Places
+pub mod Slots
+pub mod SoundTest
+pub mod Start

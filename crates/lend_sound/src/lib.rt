@@ -1,0 +1,1 @@
+// Laws on lines and on soundness, in proofs/; no code.
