@@ -7,9 +7,14 @@ use Prim.Native.Nat.{ℕ, zero, suc, _+_, _≤_, _<_}
 use native.Mathlib.Nat.{eq-or-lt-of-le, not-suc-le-zero, le-of-suc-le-suc, add-zero, add-suc, suc-add, zero-add}
 use native.Mathlib.Omega.{arith}
 use lib.Dec.{T, eqb, eqb→eq, eqb-refl}
-use lib.ListN.{length, getD, List·getD-eq-default}
+use lib.ListN.{length, length-map, getD, List·getD-eq-default}
 use Rattle.lend.specs.Lists.{any, member, distinct, every, some, tabulateFrom, tabulate}
 use Rattle.lend_basics.proofs.Bools.{and-l, and-r, and-i, or-l, or-r, or-cases, is-false}
+
+-- ── lengths ──────────────────────────────────────────────────────────────
+-- what is known of an array of structs in a struct: `search (needs, length-unmap)` finds the length of its list
+pub length-unmap : {A B : Type 0} (f : A → B) (l : List A) (n : ℕ) → length (map f l) ≡ n → length l ≡ n
+length-unmap f l n e = sym (length-map l f) ∙ e
 
 -- ── any and member ───────────────────────────────────────────────────────
 pub any-map : (h : ℕ → ℕ) (t : ℕ → Bool) (qs : List ℕ) → any t (map h qs) ≡ any (λ q. t (h q)) qs

@@ -64,10 +64,22 @@ module _ {A : Type 0} (d : A) (g : ℕ → A) (old : List A) where
     left = λ j l. getD-set-other out k j v d (λ q. lt-irrefl k (omega arith)) ∙ b .left j (omega arith);
   }
 
+  -- a turn that has nothing to change
+  pub changed-skip : (out : List A) (k : ℕ) → Changed d g old out k → getD old k d ≡ g k → Changed d g old out (k + 1)
+  changed-skip out k b e = record {
+    long = b .long;
+    done = below-more (λ (j : ℕ). getD out j d ≡ g j) k (b .done) (b .left k (omega arith) ∙ e);
+    left = λ j l. b .left j (omega arith);
+  }
+
   pub changed-all : (out : List A) (k : ℕ) → Changed d g old out k → length old ≤ k → out ≡ tabulate (length old) g
   changed-all out k b h =
       ext-getD d out (tabulate (length old) g) (b .long ∙ sym (length-tabulate g (length old)))
       (λ j l. b .done j (omega (arith, b .long)) ∙ sym (tabulate-at g (length old) j d (omega (arith, b .long))))
+
+  -- the same, where the length is known
+  pub changed-to : (n : ℕ) (out : List A) (k : ℕ) → Changed d g old out k → length old ≡ n → n ≤ k → out ≡ tabulate n g
+  changed-to n out k b e h = rw (← e) (changed-all out k b (omega arith))
 
 -- ── numbers are counted ──────────────────────────────────────────────────
 -- n of the first k numbers pass the test
@@ -87,6 +99,9 @@ module _ (t : ℕ → Bool) (n k : ℕ) (c : Counted t n k) where
   pub counted-no : t k ≡ false → Counted t n (k + 1)
   unfolding count
   counted-no e = record { is = rw (add-one k, e) (omega (arith, c .is)); small = omega (arith, c .small) }
+
+pub counted-all : (t : ℕ → Bool) (n k : ℕ) {m : ℕ} → Counted t n k → k ≡ m → n ≡ count m t
+counted-all t n k c e = rw (← e) (c .is)
 
 -- ── every number is tested ───────────────────────────────────────────────
 -- the test passes at the first k numbers

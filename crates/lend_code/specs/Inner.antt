@@ -13,10 +13,13 @@ use Rattle.lend.specs.Sizes.{Sizes, slotCount, key, spaceOf, inPool}
 use Rattle.lend.specs.Rights.{allRights, less, within}
 use Rattle.lend.specs.Lists.{any, every, count, tabulate}
 use Rattle.lend.specs.Slots.{Table, slotAt, held, withRights}
-use Rattle.lend.specs.Tables.{alive}
+use Rattle.lend.specs.Tables.{Tables, alone, alive}
 use Rattle.lend.specs.Line.{line, lineOf, frameOf}
-use Rattle.lend.specs.Cache.{filled, pageNamed, placeAt, placeFor}
-use Rattle.lend.specs.SoundTest.{slotTest, isEmptyPlace}
+use Rattle.lend.specs.Cache.{filled, pageNamed, placeAt, placeFor, droppedWhere}
+use Rattle.lend.specs.SoundTest.{slotTest, isEmptyPlace, soundTest}
+use Rattle.lend.specs.Start.{startBoard}
+use Rattle.lend.specs.Numbers.{noSpace, notLive, noPage, badRights}
+use Rattle.lend.specs.Calls.{Outcome, plainReply}
 
 -- the page that a link leads to, or the number of all pages where it leads to none
 abbrev pub upOf : Sizes → Link → ℕ
@@ -111,3 +114,37 @@ placeOk z rights frames c i q =
 
 unfoldable pub placesFit : Sizes → List ℕ → List ℕ → List Place → Bool
 placesFit z rights frames c = every (z .places) (λ i. placeOk z rights frames c i (placeAt c i))
+
+-- ── the calls ────────────────────────────────────────────────────────────
+-- the numbers of a call that names a page and rights, with the rest of them
+unfoldable pub pageNumber : Sizes → Tables → ℕ → ℕ → ℕ → ℕ → ℕ
+pageNumber z b space page rights rest =
+    cond (not (soundTest z b)) 1
+    (cond (noSpace z space) 3 (cond (notLive b space) 4 (cond (noPage z page) 5 (cond (badRights rights) 6 rest))))
+
+-- the page y alone
+unfoldable pub onlyPage : Sizes → ℕ → List Bool
+onlyPage z y = tabulate (slotCount z) (λ k. eqb k y)
+
+-- the pages of a space
+unfoldable pub spacePages : Sizes → ℕ → List Bool
+spacePages z space = tabulate (slotCount z) (λ k. eqb (spaceOf z k) space)
+
+-- the pages of a set lose d
+unfoldable pub withdrawnOf : Sizes → Tables → List Bool → ℕ → Outcome
+withdrawnOf z b set d =
+    let before : List ℕ = rightsOf z (b .slots) in
+    let after : List ℕ = rightsLeft z before set d in
+    record {
+      reply = plainReply 0 (lostAll z before after);
+      state = alone (record {
+        slots = slotsWith z (b .slots) after;
+        live = b .live;
+        places = droppedWhere z (lostIn before after) (b .places);
+        next = b .next;
+      });
+    }
+
+-- the slots of the start board
+unfoldable pub startSlots : Sizes → List Slot
+startSlots z = startBoard z .slots

@@ -21,7 +21,7 @@ use Rattle.lend.specs.Tables.{Tables, Shaped, tableOf, alive}
 use Rattle.lend.specs.Line.{lineOf, frameOf}
 use Rattle.lend.specs.Cache.{emptyPlace, filled, pageNamed, placeAt, names, lowest, placeFor}
 use Rattle.lend.specs.Sound.{Rooted, SoundPages, Names, SoundCache, Sound}
-use Rattle.lend.specs.SoundTest.{linkTest, lineTest, slotTest, pagesTest, isEmptyPlace, namesTest, placeTest, cacheTest, soundTest}
+use Rattle.lend.specs.SoundTest.{linkTest, lineTest, slotTest, pagesTest, isEmptyPlace, namesTest, placeTest, cacheTest, soundTest, Tells}
 use Rattle.lend_basics.proofs.Bools.{and-l, and-r, and-i, or-l, or-r, or-cases}
 use Rattle.lend_basics.proofs.Lists.{every-of}
 use Rattle.lend_basics.proofs.Lists.{each}
@@ -263,3 +263,7 @@ sound-test z b sound =
 -- the test computes soundness: at every size and on every board it passes just where the board is sound
 pub sound-exactly : (z : Sizes) (b : Tables) → T (soundTest z b) ↔ Sound z b
 sound-exactly z b = (test-sound z b, sound-test z b)
+
+-- the code's answer is the test's, so it tells what the record says
+pub tells : (z : Sizes) (b : Tables) (r : Bool) → r ≡ soundTest z b → Tells z b r
+tells z b r e = record { if-true = λ t. test-sound z b (rw e at t); if-sound = λ s. rw e (sound-test z b s); as-test = e }

@@ -1,25 +1,19 @@
 -- `place_fits` meets its contract: the code is the definition.
+use Rattle.entry.proofs as own
 use Rattle.lend_code.specs.Inner.{placeFits}
 use borrow.Author.Needs.{needs}
-use Rattle.entry.proofs.sound.place_fits.Statement.{statement}
-use Rattle.entry.proofs.sound.place_fits.Tie as tie
-use Rattle.entry.proofs.sound.place_fits.Reads as reads
-use Rattle.entry.proofs.sound.place_fits.Lts as lts
-use Rattle.lend.proofs.filled.Reads as filled-reads
+use own.sound.place_fits.Statement.{statement}
+use own.sound.place_fits.Tie as tie
 
--- src/sound.rt:89:5
 filled-requires : tie.Need-filled-requires
 filled-requires c κs = search needs
 
--- src/sound.rt:90:13
 cast-result : tie.Need-cast-result
 cast-result c = search needs
 
--- src/sound.rt:91:13
 cast-result-2 : tie.Need-cast-result-2
 cast-result-2 c = search needs
 
--- src/sound.rt:86:1
 returns : tie.Need-returns
 unfolding placeFits
 returns c = cc

@@ -1,40 +1,30 @@
 -- `slot_fits` meets its contract, by the cases of the link.
+use Rattle.entry.proofs as own
 use borrow.Author.Needs.{needs}
-use Rattle.entry.proofs.sound.slot_fits.Statement.{statement}
-use Rattle.entry.proofs.sound.slot_fits.Tie as tie
-use Rattle.entry.proofs.sound.slot_fits.Reads as reads
-use Rattle.entry.proofs.sound.slot_fits.Lts as lts
-use Rattle.entry.proofs.sound.lent_fits.Reads as lent-fits-reads
+use own.sound.slot_fits.Statement.{statement}
+use own.sound.slot_fits.Tie as tie
 
--- src/sound.rt:61:28
 enum-told : tie.Need-enum-told
 enum-told c = search needs
 
--- src/sound.rt:62:21
 enum-known-link : tie.Need-enum-known-link
 enum-known-link c = search needs
 
--- src/sound.rt:62:46
 cast-result : tie.Need-cast-result
 cast-result c = search needs
 
--- src/sound.rt:63:20
 enum-known-link-2 : tie.Need-enum-known-link-2
 enum-known-link-2 c = search needs
 
--- src/sound.rt:63:51
 lent-fits-requires : tie.Need-lent-fits-requires
 lent-fits-requires c κs = search needs
 
--- src/sound.rt:55:1
 returns : tie.Need-returns
 returns c = rw (c .enum-told .given .1)
 
--- src/sound.rt:55:1
 returns-2 : tie.Need-returns-2
 returns-2 c = rw (c .before .link .given .1)
 
--- src/sound.rt:55:1
 returns-3 : tie.Need-returns-3
 returns-3 c = rw (c .before .before .link2 .given .1) cc
 

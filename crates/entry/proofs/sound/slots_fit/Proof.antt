@@ -1,4 +1,6 @@
 -- `slots_fit` meets its contract. The invariant: every page before k fits. One that does not settles the answer.
+use Rattle.entry.proofs as own
+use Rattle.entry.specs as spec
 use Prim.Native.Nat.{ℕ, _-_, _<_}
 use mathlib.Core.Path.{_≡_, refl, sym, ap, _∙_}
 use mathlib.Core.Bool.{true}
@@ -11,15 +13,10 @@ use Rattle.lend.specs.SoundTest.{slotTest}
 use Rattle.lend_basics.proofs.Loops.{Tested, tested-none, tested-more, tested-not, tested-all}
 use Rattle.lend_code.proofs.Fits.{link-fits, inside-in}
 use lib.Dec.{lit<}
-use Rattle.entry.specs.Sizes.{sizes}
+use spec.Sizes.{sizes}
 use borrow.Author.Needs.{needs}
-use Rattle.entry.proofs.sound.slots_fit.Statement.{statement}
-use Rattle.entry.proofs.sound.slots_fit.Tie as tie
-use Rattle.entry.proofs.sound.slots_fit.Reads as reads
-use Rattle.entry.proofs.sound.slots_fit.Lts as lts
-use Rattle.entry.proofs.lines.inside.Reads as inside-reads
-use Rattle.entry.proofs.lines.parent.Reads as parent-reads
-use Rattle.entry.proofs.sound.slot_fits.Reads as slot-fits-reads
+use own.sound.slots_fit.Statement.{statement}
+use own.sound.slots_fit.Tie as tie
 
 abbrev Inv-loop : tie.InvT-loop
 Inv-loop live slots k₀ k = Tested (slotTest sizes live (slotAt slots)) k
@@ -27,23 +24,18 @@ Inv-loop live slots k₀ k = Tested (slotTest sizes live (slotAt slots)) k
 abbrev μ-loop : tie.MeasureT-loop
 μ-loop live slots k₀ k = slotCount sizes - k
 
--- src/sound.rt:72:5
 loop-holds : tie.Need-loop-holds Inv-loop μ-loop
 loop-holds c = tested-none _
 
--- src/sound.rt:73:20
 mul-slot : tie.Need-mul-slot Inv-loop μ-loop
 mul-slot c = search needs
 
--- src/sound.rt:73:20
 array-copy-out-slot : tie.Need-array-copy-out-slot Inv-loop μ-loop
 array-copy-out-slot c = search needs
 
--- src/sound.rt:75:25
 parent-requires : tie.Need-parent-requires Inv-loop μ-loop
 parent-requires c κs = search needs
 
--- src/sound.rt:75:13
 inside-requires : tie.Need-inside-requires Inv-loop μ-loop
 inside-requires c κs = search needs
 
@@ -53,11 +45,9 @@ up-in c = rw (c .inside .ensures) (inside-in sizes (c .before .parent .result) (
 mul-up : tie.Need-mul-up Inv-loop μ-loop
 mul-up c = omega (arith, up-in c)
 
--- src/sound.rt:76:18
 array-copy-out-up : tie.Need-array-copy-out-up Inv-loop μ-loop
 array-copy-out-up c = up-in c
 
--- src/sound.rt:77:13
 slot-fits-requires : tie.Need-slot-fits-requires Inv-loop μ-loop
 slot-fits-requires c κs = search needs
 
@@ -75,19 +65,15 @@ returns c =
     let at-loop = c .before .before .before .before .before .before .before in
     sym (tested-not _ (slotCount sizes) (at-loop .loop .k) (c .before .before .before .before .before .before .loop-test .taken) (sym (tested (c .before)) ∙ not-true _ (c .if1 .taken)))
 
--- src/sound.rt:80:9
 add-k : tie.Need-add-k Inv-loop μ-loop
 add-k c = search needs
 
--- src/sound.rt:72:5
 loop-less : tie.Need-loop-less Inv-loop μ-loop
 loop-less c = search needs
 
--- src/sound.rt:72:5
 loop-again : tie.Need-loop-again Inv-loop μ-loop
 loop-again c = tested-more _ _ (c .before .before .before .before .before .before .before .loop .inv) (sym (tested (c .before)) ∙ not-false _ (c .if1 .left))
 
--- src/sound.rt:68:1
 returns-2 : tie.Need-returns-2 Inv-loop μ-loop
 returns-2 c = sym (tested-all _ (slotCount sizes) _ (c .before .loop .inv) (c .loop-test .left))
 

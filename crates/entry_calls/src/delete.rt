@@ -1,0 +1,30 @@
+// delete: each page of the space is flushed of all rights, and the space is not live any more.
+use crate::Answer;
+use crate::answer::refused;
+use crate::checks::delete_number;
+use crate::sets::pages_of;
+use crate::withdraw::withdrawn;
+use entry as model;
+use model::Board;
+use model::lines::line_has;
+ghost use mathlib.Core.Path.{_≡_};
+ghost use Rattle.lend.specs.Tables.{alone};
+ghost use Rattle.lend.specs.Calls.{Delete, step};
+ghost use Rattle.entry.specs.Sizes.{sizes};
+ghost use Rattle.entry.specs.Board.{tables};
+ghost use Rattle.entry_calls.specs.Answer.{outcome};
+
+pub fn delete(b: Board, space: u32) -> Answer
+    ensures { λ r. ⌜ outcome r ≡ step sizes (alone (tables b)) (Delete space) ⌝ }
+{
+    let number = delete_number(b, space);
+    if number != 0 {
+        return refused(b, number);
+    }
+    let slots = b.slots;
+    let s = space as usize;
+    let reached = line_has(slots, pages_of(s));
+    let mut answer = withdrawn(b, reached, 7);
+    answer.board.live[s] = false;
+    answer
+}

@@ -1,0 +1,30 @@
+// flush: the named page and each page below it lose the rights.
+use crate::Answer;
+use crate::answer::refused;
+use crate::checks::page_number;
+use crate::sets::only;
+use crate::withdraw::withdrawn;
+use entry as model;
+use model::Board;
+use model::lines::line_has;
+use model::sizes::PAGES;
+ghost use mathlib.Core.Path.{_≡_};
+ghost use Rattle.lend.specs.Tables.{alone};
+ghost use Rattle.lend.specs.Calls.{Flush, step};
+ghost use Rattle.entry.specs.Sizes.{sizes};
+ghost use Rattle.entry.specs.Board.{tables};
+ghost use Rattle.entry_calls.specs.Answer.{outcome};
+
+pub fn flush(b: Board, space: u32, page: u32, rights: u32) -> Answer
+    ensures { λ r. ⌜ outcome r ≡ step sizes (alone (tables b)) (Flush space page rights) ⌝ }
+{
+    let in_pool = lend::pick(space == 0, 9, 0);
+    let number = page_number(b, space, page, rights, in_pool);
+    if number != 0 {
+        return refused(b, number);
+    }
+    let slots = b.slots;
+    let y = (space as usize) * PAGES + (page as usize);
+    let reached = line_has(slots, only(y));
+    withdrawn(b, reached, rights as u8)
+}

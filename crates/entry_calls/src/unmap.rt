@@ -1,0 +1,30 @@
+// unmap: each page below the named one loses the rights.
+use crate::Answer;
+use crate::answer::refused;
+use crate::checks::page_number;
+use crate::sets::only;
+use crate::withdraw::withdrawn;
+use entry as model;
+use model::Board;
+use model::lines::line_has;
+use model::sizes::PAGES;
+ghost use mathlib.Core.Path.{_≡_};
+ghost use Rattle.lend.specs.Tables.{alone};
+ghost use Rattle.lend.specs.Calls.{Unmap, step};
+ghost use Rattle.entry.specs.Sizes.{sizes};
+ghost use Rattle.entry.specs.Board.{tables};
+ghost use Rattle.entry_calls.specs.Answer.{outcome};
+
+pub fn unmap(b: Board, space: u32, page: u32, rights: u32) -> Answer
+    ensures { λ r. ⌜ outcome r ≡ step sizes (alone (tables b)) (Unmap space page rights) ⌝ }
+{
+    let number = page_number(b, space, page, rights, 0);
+    if number != 0 {
+        return refused(b, number);
+    }
+    let slots = b.slots;
+    let y = (space as usize) * PAGES + (page as usize);
+    let mut below = line_has(slots, only(y));
+    below[y] = false;
+    withdrawn(b, below, rights as u8)
+}
