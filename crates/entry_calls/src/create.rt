@@ -1,7 +1,7 @@
 // create: the space is made live.
 use crate::Answer;
-use crate::answer::refused;
 use crate::checks::create_number;
+use crate::reply::refused;
 use entry as model;
 use model::Board;
 ghost use mathlib.Core.Path.{_≡_};

@@ -1,7 +1,7 @@
 // delete: each page of the space is flushed of all rights, and the space is not live any more.
 use crate::Answer;
-use crate::answer::refused;
 use crate::checks::delete_number;
+use crate::reply::refused;
 use crate::sets::pages_of;
 use crate::withdraw::withdrawn;
 use entry as model;
@@ -14,7 +14,7 @@ ghost use Rattle.entry.specs.Sizes.{sizes};
 ghost use Rattle.entry.specs.Board.{tables};
 ghost use Rattle.entry_calls.specs.Answer.{outcome};
 
-pub fn delete(b: Board, space: u32) -> Answer
+pub fn delete(mut b: Board, space: u32) -> Answer
     ensures { λ r. ⌜ outcome r ≡ step sizes (alone (tables b)) (Delete space) ⌝ }
 {
     let number = delete_number(b, space);
@@ -24,7 +24,6 @@ pub fn delete(b: Board, space: u32) -> Answer
     let slots = b.slots;
     let s = space as usize;
     let reached = line_has(slots, pages_of(s));
-    let mut answer = withdrawn(b, reached, 7);
-    answer.board.live[s] = false;
-    answer
+    b.live[s] = false;
+    withdrawn(b, reached, 7)
 }

@@ -1,7 +1,7 @@
 // flush: the named page and each page below it lose the rights.
 use crate::Answer;
-use crate::answer::refused;
 use crate::checks::page_number;
+use crate::reply::refused;
 use crate::sets::only;
 use crate::withdraw::withdrawn;
 use entry as model;

@@ -1,9 +1,9 @@
 // The calls on a board of this model. A board goes in by value and comes back with the answer; every input is taken.
-pub mod answer;
 mod checks;
 pub mod create;
 pub mod delete;
 pub mod flush;
+pub mod reply;
 mod sets;
 pub mod start;
 pub mod unmap;

@@ -1,7 +1,7 @@
 // unmap: each page below the named one loses the rights.
 use crate::Answer;
-use crate::answer::refused;
 use crate::checks::page_number;
+use crate::reply::refused;
 use crate::sets::only;
 use crate::withdraw::withdrawn;
 use entry as model;

@@ -6,3 +6,5 @@ pub mod Columns
 pub mod Cache
 pub mod SoundCode
 pub mod Withdrawals
+pub mod Sets
+pub mod Calls

@@ -23,7 +23,7 @@ use Rattle.lend.specs.Sound.{SoundPages, Sound}
 use Rattle.lend.specs.Withdraw.{unmapped, flushed}
 use Rattle.lend.specs.Spaces.{wiped}
 use Rattle.lend.specs.Emptied.{emptied}
-use Rattle.lend.specs.Calls.{Outcome, Unmap, Flush, Delete, accept, boardAfter, memoryAfter, report, emptiedReply, withSlots, withLive, noTaker}
+use Rattle.lend.specs.Calls.{Outcome, Unmap, Flush, Delete, accept, boardAfter, memoryAfter, report, emptiedReply, plainReply, withSlots, withLive, noTaker}
 use Rattle.lend_basics.proofs.Bools.{and-false, and-true, or-false}
 use Rattle.lend_basics.proofs.Lists.{tabulate-at, tabulate-past}
 use Rattle.lend_basics.proofs.Rights.{less-zero}
@@ -102,6 +102,13 @@ module _ (z : Sizes) (b : Tables) (sound : Sound z b) (pages : List Bool) (d : �
     };
   }
 
+-- what the code makes, piece by piece
+pub withdrawn-made : (z : Sizes) (b : Tables) (pages : List Bool) (d : ℕ) (before after : List ℕ) (slots : List Slot) (n : ℕ)
+    → before ≡ rightsOf z (b .slots) → after ≡ rightsLeft z before pages d → slots ≡ slotsWith z (b .slots) after → n ≡ lostAll z before after
+    → _≡_ {A = Outcome} (record { reply = plainReply 0 n; state = alone (record { slots = slots; live = b .live; places = droppedWhere z (lostIn before after) (b .places); next = b .next }) }) (withdrawnOf z b pages d)
+unfolding withdrawnOf
+withdrawn-made z b pages d before after slots n hb ha hs hn = rw (hn, hs, ha, hb)
+
 -- ── sets of pages ────────────────────────────────────────────────────────
 only-has : (z : Sizes) (y : ℕ) → y < slotCount z → has (onlyPage z y) ≡ (λ k. eqb k y)
 unfolding onlyPage
@@ -168,10 +175,10 @@ module _ (z : Sizes) (b : Tables) (sound : Sound z b) where
       (λ k h. flushed-at z (b .live) (b .slots) live-long (sound .pages) (key z s p) d k
       ∙ ap (λ (t : Bool). cut (cond t d 0) (tableOf b k)) (sym (reached-has (key z s p) k (page-in s p d fine) h)))
 
-  -- of a delete, before the space is made not live
-  pub delete-is : 1 ≤ z .pages → (s : ℕ) → DeleteFine z b s
+  -- of a delete, the space aside
+  wiped-is : 1 ≤ z .pages → (s : ℕ) → DeleteFine z b s
       → withdrawnOf z b (lineHas z (b .slots) (spacePages z s)) allRights ≡ record { reply = emptiedReply (b .slots) (wiped z s (b .slots)); state = alone (withSlots z b (wiped z s (b .slots)) noTaker) }
-  delete-is one s fine =
+  wiped-is one s fine =
       withdrawn-is z b sound (lineHas z (b .slots) (spacePages z s)) allRights (wiped z s (b .slots)) (length-wiped z s (b .slots))
       (wiped-sound z (b .live) (b .slots) live-long (sound .pages) s out)
       (λ k h. wiped-at z (b .live) (b .slots) live-long (sound .pages) s out one k
@@ -180,3 +187,12 @@ module _ (z : Sizes) (b : Tables) (sound : Sound z b) where
     where
       out : 1 ≤ s
       out = omega (arith, fine .others)
+
+  -- the space is made not live first, which no withdrawal asks about
+  pub delete-is : 1 ≤ z .pages → (s : ℕ) → DeleteFine z b s
+      → withdrawnOf z (withLive b s false) (lineHas z (b .slots) (spacePages z s)) allRights ≡ accept z (alone b) (Delete s)
+  unfolding withdrawnOf boardAfter memoryAfter report
+  delete-is one s fine = λ i. record {
+    reply = wiped-is one s fine i .reply;
+    state = alone (withLive (wiped-is one s fine i .state .board) s false);
+  }

@@ -1,0 +1,21 @@
+-- `only` meets its contract: one page is put into a set of none.
+use Rattle.entry_calls.proofs as own
+use borrow.Author.Tests.{lt-ltb}
+use mathlib.Core.Path.{_∙_}
+use Rattle.lend_code.proofs.Sets.{only-set, only-none}
+use Rattle.entry.specs.Sizes.{sizes}
+use borrow.Author.Needs.{needs}
+use own.sets.only.Statement.{statement}
+use own.sets.only.Tie as tie
+
+array-write-set : tie.Need-array-write-set
+array-write-set c = search needs
+
+returns : tie.Need-returns
+returns c = only-set sizes _ (c .if1 .taken)
+
+returns-2 : tie.Need-returns-2
+returns-2 c = only-none sizes _ (c .if1 .left)
+
+pub only-spec : {M : Type 1} → statement M
+only-spec = tie.close (tie.spec array-write-set returns returns-2)
