@@ -2,11 +2,11 @@
 use crate::Answer;
 use crate::checks::delete_number;
 use crate::reply::refused;
-use crate::sets::pages_of;
 use crate::withdraw::withdrawn;
 use entry as model;
 use model::Board;
 use model::lines::line_has;
+use model::sets::pages_of;
 ghost use mathlib.Core.Path.{_≡_};
 ghost use Rattle.lend.specs.Tables.{alone};
 ghost use Rattle.lend.specs.Calls.{Delete, step};

@@ -2,11 +2,11 @@
 use crate::Answer;
 use crate::checks::page_number;
 use crate::reply::refused;
-use crate::sets::only;
 use crate::withdraw::withdrawn;
 use entry as model;
 use model::Board;
 use model::lines::line_has;
+use model::sets::only;
 use model::sizes::PAGES;
 ghost use mathlib.Core.Path.{_≡_};
 ghost use Rattle.lend.specs.Tables.{alone};

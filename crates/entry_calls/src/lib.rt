@@ -4,7 +4,6 @@ pub mod create;
 pub mod delete;
 pub mod flush;
 pub mod reply;
-mod sets;
 pub mod start;
 pub mod unmap;
 mod withdraw;

@@ -1,3 +1,4 @@
+-- `parent` meets its contract, by the cases of the link.
 use Rattle.entry.proofs as own
 use borrow.Author.Needs.{needs}
 use own.lines.parent.Statement.{statement}

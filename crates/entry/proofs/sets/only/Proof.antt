@@ -1,9 +1,10 @@
 -- `only` meets its contract: one page is put into a set of none.
-use Rattle.entry_calls.proofs as own
+use Rattle.entry.proofs as own
+use Rattle.entry.specs as spec
 use borrow.Author.Tests.{lt-ltb}
 use mathlib.Core.Path.{_∙_}
 use Rattle.lend_code.proofs.Sets.{only-set, only-none}
-use Rattle.entry.specs.Sizes.{sizes}
+use spec.Sizes.{sizes}
 use borrow.Author.Needs.{needs}
 use own.sets.only.Statement.{statement}
 use own.sets.only.Tie as tie

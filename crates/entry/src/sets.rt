@@ -1,10 +1,9 @@
 // Sets of pages, as an array that has a test for each.
-use entry as model;
-use model::sizes::PAGES;
-use model::sizes::SLOTS;
+use crate::sizes::PAGES;
+use crate::sizes::SLOTS;
 ghost use mathlib.Core.Path.{_≡_};
 ghost use Rattle.lend_code.specs.Inner.{onlyPage, spacePages};
 ghost use Rattle.entry.specs.Sizes.{sizes};
 
 // The page y alone; no page where there is no such page.
 pub fn only(y: usize) -> [bool; SLOTS]

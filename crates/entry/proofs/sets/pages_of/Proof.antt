@@ -1,5 +1,6 @@
 -- `pages_of` meets its contract: the set is built page by page.
-use Rattle.entry_calls.proofs as own
+use Rattle.entry.proofs as own
+use Rattle.entry.specs as spec
 use Prim.Native.Nat.{_-_}
 use mathlib.Core.Bool.{false}
 use mathlib.Core.Path.{refl}
@@ -7,7 +8,7 @@ use lib.Dec.{eqb}
 use Rattle.lend.specs.Sizes.{slotCount, spaceOf}
 use Rattle.lend_basics.proofs.Loops.{Built, built-none, built-more, built-all}
 use Rattle.lend_code.specs.Inner.{spacePages}
-use Rattle.entry.specs.Sizes.{sizes}
+use spec.Sizes.{sizes}
 use borrow.Author.Needs.{needs}
 use own.sets.pages_of.Statement.{statement}
 use own.sets.pages_of.Tie as tie

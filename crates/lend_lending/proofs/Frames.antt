@@ -1,0 +1,63 @@
+-- The frame at the end of a line: the line has a page that holds it, and no other frame.
+use mathlib.Core.Path.{_≡_, refl, sym, ap, _∙_}
+use mathlib.Core.Bool.{Bool, false}
+use mathlib.Core.List.{List, [], _∷_}
+use mathlib.Core.Option.{none, some}
+use mathlib.Core.Logic.{_⊎_, inl, inr}
+use Prim.Native.Nat.{ℕ}
+use native.Mathlib.Nat.{le-of-eq}
+use native.Mathlib.Omega.{arith}
+use lib.Dec.{T, eqb, eqb→eq, eqb-refl}
+use lib.ListN.{length}
+use Rattle.lend.specs.declared.Link.{Link}
+use Rattle.lend.specs.declared.Link.the-variants.{Nothing, Frame, Page}
+use Rattle.lend.specs.Sizes.{Sizes, key}
+use Rattle.lend.specs.Lists.{member}
+use Rattle.lend.specs.Slots.{Table, linked, held}
+use Rattle.lend.specs.Line.{parent, Line, ends, climbs, onLine, frame, frameOf}
+use Rattle.lend.specs.Sound.{SoundPages}
+use Rattle.lend_basics.proofs.Bools.{or-l, or-r, or-cases}
+use Rattle.lend_sound.proofs.Lines.{parent-link, frame-fuel, spaces-some, the-line, frame-step, parent-held}
+
+module _ (z : Sizes) (live : List Bool) (f : Table) (len : length live ≡ z .spaces) (sound : SoundPages z live f) where
+  -- a page that holds a frame has that frame
+  pub frame-here : (k i : ℕ) → f k .link ≡ Frame i → frameOf z f k ≡ i
+  unfolding frame
+  frame-here k i e =
+      let a : Line z f k (k ∷ []) = ends {k = k} (rw e) in
+      frame-fuel a (z .spaces) 1 (spaces-some z live f len sound) (le-of-eq refl) ∙ rw e
+
+  -- a page has the frame of its parent
+  pub frame-up : (k q : ℕ) → parent z f k ≡ some q → frameOf z f k ≡ frameOf z f q
+  frame-up k q e =
+      let r = parent-link z f k q e in
+      frame-step z live f len sound k (r .0) (r .1) (r .2) ∙ ap (frameOf z f) (r .3)
+
+  -- on the line of a held page there is one that holds its frame
+  pub line-frame : {k : ℕ} {l : List ℕ} → Line z f k l → T (held (f k)) → (q : ℕ) × T (member q l) × (f q .link ≡ Frame (frameOf z f k))
+  line-frame {k} (ends e) h = go (f k .link) refl h
+    where
+      go : (x : Link) → f k .link ≡ x → T (linked x) → (q : ℕ) × T (member q (k ∷ [])) × (f q .link ≡ Frame (frameOf z f k))
+      go Nothing d t = absurd t
+      go (Frame i) d t = (k, or-l (eqb k k) false (eqb-refl k), d ∙ ap Frame (sym (frame-here k i d)))
+      go (Page s p) d t = let n : some (key z s p) ≡ none = rw d at e in let x : _≡_ {A = ℕ} 0 1 = cc in absurd (omega arith)
+  line-frame {k} (climbs {q = j} {l = l} e a) h =
+      let r = line-frame a (parent-held z live f len sound k j e) in
+      (r .0, or-r (eqb k (r .0)) (member (r .0) l) (r .1), r .2 ∙ ap Frame (sym (frame-up k j e)))
+
+  -- and a frame that a page on the line holds is that one
+  pub frame-on-line : {k : ℕ} {l : List ℕ} → Line z f k l → (q i : ℕ) → T (member q l) → f q .link ≡ Frame i → frameOf z f k ≡ i
+  frame-on-line {k} (ends e) q i m d = go (or-cases (eqb k q) false m)
+    where
+      go : T (eqb k q) ⊎ ⊥ → frameOf z f k ≡ i
+      go (inl t) = frame-here k i (rw (eqb→eq k q t) d)
+      go (inr t) = absurd t
+  frame-on-line {k} (climbs {q = j} {l = l} e a) q i m d = go (λ t. frame-on-line a q i t d) (or-cases (eqb k q) (member q l) m)
+    where
+      go : (T (member q l) → frameOf z f j ≡ i) → T (eqb k q) ⊎ T (member q l) → frameOf z f k ≡ i
+      go rest (inl t) = frame-here k i (rw (eqb→eq k q t) d)
+      go rest (inr t) = frame-up k j e ∙ rest t
+
+  -- the frame of a held page is held by a page on its line
+  pub frame-held : (k : ℕ) → T (held (f k)) → (q : ℕ) × T (onLine z f k q) × (f q .link ≡ Frame (frameOf z f k))
+  frame-held k h = line-frame (the-line z live f len sound k) h

@@ -1,0 +1,9 @@
+pub mod Relink
+pub mod Map
+pub mod Grant
+pub mod Frames
+pub mod Insert
+pub mod Always
+pub mod RangeCalls
+pub mod LenderWins
+pub mod Invariants

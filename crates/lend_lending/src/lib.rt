@@ -1,0 +1,1 @@
+// Laws on lending, translation and every call together, in proofs/; no code.
