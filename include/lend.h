@@ -1,0 +1,105 @@
+/* The page-lending board for C: calls over a byte image of the board.
+ *
+ * Every call takes every input. An image that is not a board's, a board that is not sound, a bad number or a forbidden request is
+ * refused by a number of the table below; after a refusal every byte of the image and of the memory is as it was, and every out
+ * field is 0. The caller checks nothing first.
+ *
+ * What the proofs assume of the caller: `image` and `memory` are valid for reading and writing over the lengths that are
+ * given with them, `out` over its four numbers, and no two of them overlap. `load` only reads its memory.
+ */
+#ifndef LEND_H
+#define LEND_H
+
+#include <stddef.h>
+#include <stdint.h>
+
+#ifdef __cplusplus
+extern "C" {
+#endif
+
+/* ---- numbers that come back ------------------------------------------------------------------------------------------------ */
+
+enum lend_number {
+    LEND_DONE = 0,
+    LEND_UNSOUND = 1,          /* the board is not sound, or the bytes are no board's image */
+    LEND_MEMORY = 2,           /* the memory has the wrong length */
+    LEND_SPACE = 3,            /* a space number past the last space */
+    LEND_NOT_LIVE = 4,         /* a named space is not live */
+    LEND_PAGE = 5,             /* a page number past the last page, or an address past the last byte */
+    LEND_RIGHTS = 6,           /* rights are 0 or above 7 */
+    LEND_RANGE = 7,            /* a range is invalid */
+    LEND_RANGES_DIFFER = 8,    /* two ranges differ in their number of pages */
+    LEND_POOL = 9,             /* flush in space 0; map or grant into it; grant out of it; delete of space 0 or 1 */
+    LEND_LIVE = 10,            /* create of a live space */
+    LEND_EMPTY = 11,           /* the giver's page, or the page to translate, is empty */
+    LEND_NOT_HELD = 12,        /* rights asked for are not all held */
+    LEND_RING = 13,            /* a page on the giver's line, its own page included, is in the taker's space */
+    LEND_SOURCE_BELOW = 14,    /* a page of the source's space is below the taker's page */
+    LEND_TAKER_BELOW = 15      /* a page of the taker's space, other than the taker's page, is below the source */
+};
+
+/* Rights are a sum of these. */
+enum lend_right { LEND_EXECUTE = 1, LEND_WRITE = 2, LEND_READ = 4, LEND_ALL = 7 };
+
+#define LEND_PAGE_BYTES 1024
+
+/* ---- the entry model: 8 spaces, 32 pages in each, 32 frames, 8 cache places -------------------------------------------------- */
+
+#define LEND_ENTRY_SPACES 8
+#define LEND_ENTRY_PAGES 32
+#define LEND_ENTRY_PLACES 8
+#define LEND_ENTRY_MEMORY (LEND_PAGE_BYTES * LEND_ENTRY_PAGES)
+
+/* The image of a board, byte by byte. Numbers wider than a byte are little-endian. Later fields are appended.
+ *
+ *   slot (s, p)   4 bytes at LEND_SLOT + 4 * (pages * s + p): kind, two numbers, rights
+ *                   kind 0: no link, the two numbers 0         (an empty page; rights are 0 on a sound board)
+ *                   kind 1: a frame: its number, then 0
+ *                   kind 2: a page: its space, its page
+ *   live          one byte for each space: 0 or 1
+ *   cache place   4 bytes for each: space, page, frame, rights; all 0 when it is empty
+ *   next place    one byte
+ *
+ * A kind above 2, a live byte above 1 and an unused byte that is not 0 are no board's image.
+ */
+#define LEND_ENTRY_SLOT 0
+#define LEND_ENTRY_LIVE (LEND_ENTRY_SLOT + 4 * LEND_ENTRY_SPACES * LEND_ENTRY_PAGES)
+#define LEND_ENTRY_CACHE (LEND_ENTRY_LIVE + LEND_ENTRY_SPACES)
+#define LEND_ENTRY_NEXT (LEND_ENTRY_CACHE + 4 * LEND_ENTRY_PLACES)
+#define LEND_ENTRY_IMAGE (LEND_ENTRY_NEXT + 1) /* 1,065 bytes */
+
+/* Each call answers one of the numbers. An image length other than LEND_ENTRY_IMAGE is answered with LEND_UNSOUND. */
+
+/* Writes the start board over any bytes. */
+uint32_t lend_entry_start(uint8_t *image, size_t image_length, uint32_t out[4]);
+
+/* 1 where the image is a sound board's, else 0. */
+uint32_t lend_entry_sound(uint8_t *image, size_t image_length);
+
+/* out[0]: how many pages were held before the call and are empty after it. The other fields are 0. */
+uint32_t lend_entry_create(uint8_t *image, size_t image_length, uint32_t space, uint32_t out[4]);
+uint32_t lend_entry_delete(uint8_t *image, size_t image_length, uint32_t space, uint32_t out[4]);
+uint32_t lend_entry_unmap(uint8_t *image, size_t image_length, uint32_t space, uint32_t page, uint32_t rights, uint32_t out[4]);
+uint32_t lend_entry_flush(uint8_t *image, size_t image_length, uint32_t space, uint32_t page, uint32_t rights, uint32_t out[4]);
+uint32_t lend_entry_map(uint8_t *image, size_t image_length, uint32_t from, uint32_t page, uint32_t to, uint32_t at,
+                        uint32_t rights, uint32_t out[4]);
+uint32_t lend_entry_grant(uint8_t *image, size_t image_length, uint32_t from, uint32_t page, uint32_t to, uint32_t at,
+                          uint32_t rights, uint32_t out[4]);
+
+/* out[0]: the physical address. out[1]: 1 where the page was in the cache. */
+uint32_t lend_entry_translate(uint8_t *image, size_t image_length, uint32_t space, uint32_t address, uint32_t rights,
+                              uint32_t out[4]);
+
+/* out[0]: the byte. Asks for the right to read. */
+uint32_t lend_entry_load(uint8_t *image, size_t image_length, uint8_t *memory, size_t memory_length, uint32_t space,
+                         uint32_t address, uint32_t out[4]);
+
+/* Changes one byte of memory. Asks for the right to write. */
+uint32_t lend_entry_store(uint8_t *image, size_t image_length, uint8_t *memory, size_t memory_length, uint32_t space,
+                          uint32_t address, uint8_t value, uint32_t out[4]);
+
+#ifdef __cplusplus
+}
+#endif
+
+#endif
