@@ -7,6 +7,7 @@ use lend::Slot;
 ghost use mathlib.Core.Path.{_≡_};
 ghost use Rattle.lend.specs.Sizes.{key as keyOf};
 ghost use Rattle.lend_code.specs.Inner.{upOf, insideOf, lineHas, frameIn, Fitting, Ended};
+ghost use Rattle.lend_code.specs.Lending.{meetsIn};
 ghost use Rattle.entry.specs.Sizes.{sizes};
 
 // The number of a page.
@@ -61,6 +62,27 @@ pub fn line_has(slots: [Slot; SLOTS], set: [bool; SLOTS]) -> [bool; SLOTS]
         }
     }
     found
+}
+
+// Whether a page of the table on the line of page k is in the space. One turn visits one page of the line.
+pub fn meets(slots: [Slot; SLOTS], k: usize, space: usize) -> bool
+    ensures { λ r. ⌜ r ≡ meetsIn sizes slots k space ⌝ }
+{
+    let mut at = k;
+    let mut left: usize = SPACES;
+    while 0 < left {
+        if SLOTS <= at {
+            return false;
+        }
+        if at / PAGES == space {
+            return true;
+        }
+        let slot = slots[at];
+        let link = slot.link;
+        at = parent(link);
+        left -= 1;
+    }
+    false
 }
 
 // The frame that a link leads to directly, 0 where it leads to none.
