@@ -86,7 +86,7 @@ pub fn meets(slots: [Slot; SLOTS], k: usize, space: usize) -> bool
 }
 
 // The frame that a link leads to directly, 0 where it leads to none.
-fn frame_in(link: Link) -> u8
+pub(crate) fn frame_in(link: Link) -> u8
     ensures { λ r. ⌜ r ≡ frameIn link ⌝ }
 {
     match link {
@@ -94,6 +94,11 @@ fn frame_in(link: Link) -> u8
         Link::Frame(frame) => frame,
         Link::Page(_, _) => 0,
     }
+}
+
+// What the walk along the line of one page finds: the frame at its end, 0 where there is none.
+pub struct Lookup {
+    pub frame: u8,
 }
 
 // What a walk along all lines finds: whether each is of the right kind, and the frame at its end.

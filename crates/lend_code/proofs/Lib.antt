@@ -12,3 +12,4 @@ pub mod Climbs
 pub mod Taken
 pub mod LendingNumbers
 pub mod LendingCalls
+pub mod Access
