@@ -14,6 +14,17 @@ VIEWS = {
     '': 'the result itself',
     'tables': 'boardOf-tables (specs/Board.antt of the board)',
     'outcome': 'answerOf-outcome (specs/Answer.antt of the calls)',
+    'translated': 'translatedOf-translated (specs/Answers.antt)',
+    'seen': 'seenOf-seen (specs/Answers.antt)',
+}
+# views of the result and of the memory beside it
+WITH_MEMORY = {
+    'loaded': 'loadedOf-loaded (specs/Answers.antt)',
+    'stored': 'storedOf-stored, memory too (specs/Answers.antt)',
+}
+# structs with one field, which is then all of them
+FIELDS = {
+    'frame': 'the only field of a Lookup',
 }
 # contracts that are records: the field that equals a definition
 RECORDS = {
@@ -44,6 +55,12 @@ def determined(clause):
     m = re.fullmatch(rf'(?:(\w+) )?{result} ≡ (.*)', fact)
     if m and (m.group(1) or '') in VIEWS:
         return VIEWS[m.group(1) or ''], m.group(2)
+    m = re.fullmatch(rf'(\w+) {result} \(now \(memory \.(?:entry|exit)\)\) ≡ (.*)', fact)
+    if m and m.group(1) in WITH_MEMORY:
+        return WITH_MEMORY[m.group(1)], m.group(2)
+    m = re.fullmatch(rf'{result} \.(\w+) ≡ (.*)', fact)
+    if m and m.group(1) in FIELDS:
+        return FIELDS[m.group(1)], m.group(2)
     m = re.fullmatch(rf'(\w+) (.*) {result}', fact)
     if m and m.group(1) in RECORDS:
         return RECORDS[m.group(1)], f'{m.group(1)} {m.group(2)}'
