@@ -29,6 +29,7 @@ FIELDS = {
 # contracts that are records: the field that equals a definition
 RECORDS = {
     'Tells': 'as-test: the result equals soundTest',
+    'Wrote': 'the next position, and every byte of the lent buffer',
 }
 
 errors = []

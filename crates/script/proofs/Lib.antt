@@ -1,0 +1,4 @@
+pub mod Turns
+pub mod Running
+pub mod Listing
+pub mod Bound

@@ -1,0 +1,64 @@
+// What a line of a script says, and the listing's line of a slot, written out: once for both models. The whole program is the
+// definition `scriptOutput` in specs/, and the laws that a model's loop stands on are in proofs/.
+ghost use mathlib.Core.Path.{_≡_};
+ghost use Rattle.text.specs.Write.{Wrote};
+ghost use Rattle.script.specs.Script.{saidLine, slotLine};
+use lend::Link;
+use lend::Slot;
+
+// What a line says: a comment nothing, a malformed line its number 16, translate where it came to, any other call what it emptied.
+pub enum Said {
+    Silent,
+    Garbled,
+    Emptied {
+        number: u32,
+        emptied: u32,
+    },
+    Translated {
+        number: u32,
+        address: u32,
+        hit: bool,
+    },
+}
+
+// Writes what the line of this number says.
+pub fn say(out: &mut [u8], at: usize, line: u32, said: Said) -> usize
+    ensures { λ r. ⌜ Wrote (now (out .entry)) at (saidLine line said) (now (out .exit)) r ⌝ }
+{
+    match said {
+        Said::Silent => at,
+        Said::Garbled => text::write::put_malformed(out, at, line),
+        Said::Emptied { number, emptied } => text::write::put_answer(
+            out,
+            at,
+            line,
+            number,
+            emptied,
+        ),
+        Said::Translated {
+            number,
+            address,
+            hit,
+        } => text::write::put_translation(out, at, line, number, address, hit),
+    }
+}
+
+// The byte as a wider number.
+fn wide(byte: u8) -> u32
+    ensures { λ r. ⌜ r ≡ byte ⌝ }
+{
+    byte as u32
+}
+
+// Writes the listing's line of a page that keeps this slot, and nothing where it is empty.
+pub fn put_slot(out: &mut [u8], at: usize, space: u32, page: u32, slot: Slot) -> usize
+    ensures { λ r. ⌜ Wrote (now (out .entry)) at (slotLine space page slot) (now (out .exit)) r ⌝ }
+{
+    let link = slot.link;
+    let rights = wide(slot.rights);
+    match link {
+        Link::Nothing => at,
+        Link::Frame(_) => text::write::put_page(out, at, space, page, 0, 0, rights),
+        Link::Page(s, p) => text::write::put_page(out, at, space, page, wide(s), wide(p), rights),
+    }
+}

@@ -1,0 +1,1 @@
+// The session of document 01 as a theorem, in proofs/; no code.
