@@ -1,8 +1,8 @@
 /* Serves the C library's calls over standard input and output, so that a program of any language and processor can drive it.
  *
  * A request: the call's letter, seven numbers, a byte, the lengths of image and memory (each a uint32_t), and their bytes.
- * The reply: the number, the four out fields, and the bytes of image and memory as the call left them. Little-endian.
- * Before each call out is filled with ones, so that a field that a call forgets is seen.
+ * The reply: the number, the four out fields, a byte that is 1 where the call changed a byte outside what was lent to it, and the
+ * bytes of image and memory as the call left them. Numbers are little-endian.
  */
 #include <stdio.h>
 #include <stdlib.h>
@@ -10,12 +10,21 @@
 
 #include "lend.h"
 
+/* What stands on both sides of lent bytes; an odd number, so that they start at an odd address. */
+enum { GUARD = 61, GUARD_BYTE = 0xa5 };
+
+#define OUT_GUARD 0xdeadbeefu
+
+struct lent {
+    uint32_t length;
+    uint8_t *all, *bytes;
+};
+
 struct request {
     uint8_t call;
     uint32_t n[7];
     uint8_t value;
-    uint32_t image_length, memory_length;
-    uint8_t *image, *memory;
+    struct lent image, memory;
 };
 
 /* Reads so many bytes; 0 at the end of the input. */
@@ -25,28 +34,39 @@ static void give(const void *bytes, size_t length) {
     if (fwrite(bytes, 1, length, stdout) != length) exit(3);
 }
 
-/* A block of its own, one byte at least, so that a call that reads or writes past it can be caught by a checker. */
-static uint8_t *block(uint32_t length) {
-    uint8_t *bytes = malloc(length ? length : 1);
-    if (!bytes || !take(bytes, length)) exit(3);
-    return bytes;
+/* Reads bytes to be lent, and puts guards around them. */
+static void borrow(struct lent *lent) {
+    size_t all = (size_t)lent->length + 2 * GUARD;
+    lent->all = malloc(all);
+    if (!lent->all) exit(3);
+    memset(lent->all, GUARD_BYTE, all);
+    lent->bytes = lent->all + GUARD;
+    if (!take(lent->bytes, lent->length)) exit(3);
+}
+
+/* Whether a guard has changed. */
+static int strayed(const struct lent *lent) {
+    for (size_t i = 0; i < GUARD; i++)
+        if (lent->all[i] != GUARD_BYTE || lent->bytes[lent->length + i] != GUARD_BYTE) return 1;
+    return 0;
 }
 
 static int next(struct request *r) {
     if (!take(&r->call, 1)) return 0;
-    if (!take(r->n, sizeof r->n) || !take(&r->value, 1) || !take(&r->image_length, 4) || !take(&r->memory_length, 4)) exit(3);
-    r->image = block(r->image_length);
-    r->memory = block(r->memory_length);
+    if (!take(r->n, sizeof r->n) || !take(&r->value, 1)) exit(3);
+    if (!take(&r->image.length, 4) || !take(&r->memory.length, 4)) exit(3);
+    borrow(&r->image);
+    borrow(&r->memory);
     return 1;
 }
 
 static uint32_t call(struct request *r, uint32_t *out) {
-    uint8_t *b = r->image, *m = r->memory;
-    size_t length = r->image_length, bytes = r->memory_length;
+    uint8_t *b = r->image.bytes, *m = r->memory.bytes;
+    size_t length = r->image.length, bytes = r->memory.length;
     uint32_t *n = r->n;
     switch (r->call) {
     case 's': return lend_entry_start(b, length, out);
-    case '?': memset(out, 0, 16); return lend_entry_sound(b, length);
+    case '?': memset(out, 0, 4 * sizeof *out); return lend_entry_sound(b, length);
     case 'c': return lend_entry_create(b, length, n[0], out);
     case 'd': return lend_entry_delete(b, length, n[0], out);
     case 'u': return lend_entry_unmap(b, length, n[0], n[1], n[2], out);
@@ -62,17 +82,19 @@ static uint32_t call(struct request *r, uint32_t *out) {
 
 int main(void) {
     struct request r;
-    uint32_t out[4], number;
     while (next(&r)) {
-        memset(out, 0xff, sizeof out);
-        number = call(&r, out);
+        uint32_t out[6];
+        for (int i = 0; i < 6; i++) out[i] = OUT_GUARD;
+        uint32_t number = call(&r, out + 1);
+        uint8_t stray = strayed(&r.image) || strayed(&r.memory) || out[0] != OUT_GUARD || out[5] != OUT_GUARD;
         give(&number, 4);
-        give(out, sizeof out);
-        give(r.image, r.image_length);
-        give(r.memory, r.memory_length);
+        give(out + 1, 16);
+        give(&stray, 1);
+        give(r.image.bytes, r.image.length);
+        give(r.memory.bytes, r.memory.length);
         if (fflush(stdout)) return 3;
-        free(r.image);
-        free(r.memory);
+        free(r.image.all);
+        free(r.memory.all);
     }
     return 0;
 }
