@@ -46,7 +46,7 @@ for path in sorted(glob.glob('crates/entry*/**/*.*', recursive=True)):
         continue
     for at, line in enumerate(open(path), 1):
         code = re.split(r'//|--', line)[0]
-        if re.search(r'(?<![\w.])(8|16|32|64|256|1024|32768|65536)(?![\w.])', code):
+        if re.search(r'(?<![\w.-])(8|16|32|64|256|1024|32768|65536)(?![\w.])', code):
             breach(path, at, 'a size as a bare number')
 
 print('\n'.join(breaches) if breaches else 'the house rules hold')

@@ -1,5 +1,6 @@
 // The board of this model: its types, the walk along all lines, and the test of soundness.
 pub mod lines;
+pub mod lookup;
 pub mod rights;
 pub mod sets;
 pub mod sizes;
@@ -16,6 +17,13 @@ use sizes::SPACES;
 pub struct Cache {
     pub places: [Place; PLACES],
     pub next: u8,
+}
+
+// What a search of the cache hands back: the cache, whether the page is in it, and the place that names the page.
+pub struct Found {
+    pub cache: Cache,
+    pub hit: bool,
+    pub place: Place,
 }
 
 // The slot of each page, space by space; which spaces are live; the cache.

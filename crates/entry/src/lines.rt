@@ -7,6 +7,7 @@ use lend::Slot;
 ghost use mathlib.Core.Path.{_≡_};
 ghost use Rattle.lend.specs.Sizes.{key as keyOf};
 ghost use Rattle.lend_code.specs.Inner.{upOf, insideOf, lineHas, frameIn, Fitting, Ended};
+ghost use Rattle.lend_code.specs.Lending.{meetsIn};
 ghost use Rattle.entry.specs.Sizes.{sizes};
 
 // The number of a page.
@@ -63,8 +64,29 @@ pub fn line_has(slots: [Slot; SLOTS], set: [bool; SLOTS]) -> [bool; SLOTS]
     found
 }
 
+// Whether a page of the table on the line of page k is in the space. One turn visits one page of the line.
+pub fn meets(slots: [Slot; SLOTS], k: usize, space: usize) -> bool
+    ensures { λ r. ⌜ r ≡ meetsIn sizes slots k space ⌝ }
+{
+    let mut at = k;
+    let mut left: usize = SPACES;
+    while 0 < left {
+        if SLOTS <= at {
+            return false;
+        }
+        if at / PAGES == space {
+            return true;
+        }
+        let slot = slots[at];
+        let link = slot.link;
+        at = parent(link);
+        left -= 1;
+    }
+    false
+}
+
 // The frame that a link leads to directly, 0 where it leads to none.
-fn frame_in(link: Link) -> u8
+pub(crate) fn frame_in(link: Link) -> u8
     ensures { λ r. ⌜ r ≡ frameIn link ⌝ }
 {
     match link {
@@ -72,6 +94,11 @@ fn frame_in(link: Link) -> u8
         Link::Frame(frame) => frame,
         Link::Page(_, _) => 0,
     }
+}
+
+// What the walk along the line of one page finds: the frame at its end, 0 where there is none.
+pub struct Lookup {
+    pub frame: u8,
 }
 
 // What a walk along all lines finds: whether each is of the right kind, and the frame at its end.

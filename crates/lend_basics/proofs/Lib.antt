@@ -3,3 +3,4 @@ pub mod Rights
 pub mod Lists
 pub mod Loops
 pub mod Pigeon
+pub mod Unique

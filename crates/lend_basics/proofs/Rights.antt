@@ -5,7 +5,7 @@ use Prim.Native.Nat.{ℕ, zero, suc, _≤_, _<_}
 use native.Mathlib.Nat.{le-of-suc-le-suc, not-suc-le-zero, eq-or-lt-of-le}
 use mathlib.Core.Logic.{_⊎_, inl, inr}
 use lib.Dec.{T, ltb, eqb, eqb→eq, ltb→lt}
-use lib.Bits.{bitOr}
+use lib.Bits.{bitAnd, bitOr}
 use Rattle.lend.specs.Rights.{less, within}
 use Rattle.lend_basics.proofs.Bools.{and-l, and-r, implies, implied}
 
@@ -58,6 +58,11 @@ pub less-whole : (r d : ℕ) → r < 8 → d < 8 → T (within r (less r d)) →
 unfolding less within
 less-whole r d hr hd w =
     eqb→eq r (less r d) (implied (within r (less r d)) (eqb r (less r d)) (each2 (λ a b. implies (within a (less a b)) (eqb a (less a b))) tt r d hr hd) w)
+
+-- of what was taken nothing is left
+pub less-apart : (r d : ℕ) → r < 8 → d < 8 → bitAnd (less r d) d ≡ 0
+unfolding less
+less-apart r d hr hd = eqb→eq (bitAnd (less r d) d) 0 (each2 (λ a b. eqb (bitAnd (less a b) b) 0) tt r d hr hd)
 
 pub less-less : (r d e : ℕ) → r < 8 → d < 8 → e < 8 → less (less r d) e ≡ less r (join d e)
 unfolding less join

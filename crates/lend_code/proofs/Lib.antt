@@ -8,3 +8,8 @@ pub mod SoundCode
 pub mod Withdrawals
 pub mod Sets
 pub mod Calls
+pub mod Climbs
+pub mod Taken
+pub mod LendingNumbers
+pub mod LendingCalls
+pub mod Access

@@ -21,12 +21,12 @@ use Rattle.lend_basics.proofs.Loops.{Built, built-none, built-more, built-all}
 use Rattle.lend_code.specs.Inner.{upOf, has, lineHas}
 
 -- any over the line of a page, by one page and the rest
-any-line : (z : Sizes) (f : Table) (t : ℕ → Bool) (n k : ℕ) → any t (line z f (suc n) k) ≡ (t k || any t (onward (parent z f k) (λ q. line z f n q)))
+pub any-line : (z : Sizes) (f : Table) (t : ℕ → Bool) (n k : ℕ) → any t (line z f (suc n) k) ≡ (t k || any t (onward (parent z f k) (λ q. line z f n q)))
 unfolding line
 any-line z f t n k = refl
 
 -- a line that starts past the table is that page alone
-any-past : (z : Sizes) (b : List Slot) (t : ℕ → Bool) (n k : ℕ) → length b ≤ k → t k ≡ false → any t (line z (slotAt b) n k) ≡ false
+pub any-past : (z : Sizes) (b : List Slot) (t : ℕ → Bool) (n k : ℕ) → length b ≤ k → t k ≡ false → any t (line z (slotAt b) n k) ≡ false
 unfolding line
 any-past z b t zero k h e = refl
 any-past z b t (suc n) k h e = rw (e, List·getD-eq-default b (record { link = Nothing; rights = 0 }) {n = k} h)

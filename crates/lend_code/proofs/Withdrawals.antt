@@ -124,7 +124,7 @@ space-past z s k one h l e =
     let n : k < slotCount z = div-lt-iff-lt-mul {k = z .pages} {x = k} {y = z .spaces} one .0 m in
     omega arith
 
-space-has : (z : Sizes) (s : ℕ) → 1 ≤ z .pages → s < z .spaces → has (spacePages z s) ≡ (λ k. eqb (spaceOf z k) s)
+pub space-has : (z : Sizes) (s : ℕ) → 1 ≤ z .pages → s < z .spaces → has (spacePages z s) ≡ (λ k. eqb (spaceOf z k) s)
 unfolding spacePages
 space-has z s one h = fun-ext (λ k. go k (decLt k (slotCount z)))
   where
@@ -132,13 +132,15 @@ space-has z s one h = fun-ext (λ k. go k (decLt k (slotCount z)))
     go k (yes l) = tabulate-at (λ j. eqb (spaceOf z j) s) (slotCount z) k false l
     go k (no l) = tabulate-past (λ j. eqb (spaceOf z j) s) (slotCount z) k false (omega arith) ∙ sym (ne-eqb (spaceOf z k) s (λ e. space-past z s k one h (omega arith) e))
 
+-- the pages that have page y on their line
+pub reached-has : (z : Sizes) (b : List Slot) (y k : ℕ) → y < slotCount z → k < slotCount z
+    → has (lineHas z b (onlyPage z y)) k ≡ onLine z (slotAt b) k y
+reached-has z b y k hy hk = line-has-at z b (onlyPage z y) k hk ∙ ap (λ (t : ℕ → Bool). any t (lineOf z (slotAt b) k)) (only-has z y hy)
+
 -- ── the calls ────────────────────────────────────────────────────────────
 module _ (z : Sizes) (b : Tables) (sound : Sound z b) where
   live-long : length (b .live) ≡ z .spaces
   live-long = sound .shape .live-long
-
-  reached-has : (y k : ℕ) → y < slotCount z → k < slotCount z → has (lineHas z (b .slots) (onlyPage z y)) k ≡ onLine z (tableOf b) k y
-  reached-has y k hy hk = line-has-at z (b .slots) (onlyPage z y) k hk ∙ ap (λ (t : ℕ → Bool). any t (lineOf z (tableOf b) k)) (only-has z y hy)
 
   below-has : (y k : ℕ) → y < slotCount z → k < slotCount z → has (set (lineHas z (b .slots) (onlyPage z y)) y false) k ≡ below z (tableOf b) k y
   below-has y k hy hk = go (ℕ-discrete k y)
@@ -150,7 +152,7 @@ module _ (z : Sizes) (b : Tables) (sound : Sound z b) where
           ∙ sym (and-false (onLine z (tableOf b) y y)))
       go (no e) =
           getD-set-other (lineHas z (b .slots) (onlyPage z y)) y k false false e
-          ∙ (reached-has y k hy hk ∙ sym (rw (ne-eqb k y e) (and-true (onLine z (tableOf b) k y))))
+          ∙ (reached-has z (b .slots) y k hy hk ∙ sym (rw (ne-eqb k y e) (and-true (onLine z (tableOf b) k y))))
 
   -- the page that is named is in the table
   page-in : (s p d : ℕ) → PageFine z b s p d → key z s p < slotCount z
@@ -173,7 +175,7 @@ module _ (z : Sizes) (b : Tables) (sound : Sound z b) where
       withdrawn-is z b sound (lineHas z (b .slots) (onlyPage z (key z s p))) d (flushed z (key z s p) d (b .slots)) (length-flushed z (key z s p) d (b .slots))
       (flushed-sound z (b .live) (b .slots) live-long (sound .pages) (key z s p) d (out-of-pool z s p out) (fine .known-rights))
       (λ k h. flushed-at z (b .live) (b .slots) live-long (sound .pages) (key z s p) d k
-      ∙ ap (λ (t : Bool). cut (cond t d 0) (tableOf b k)) (sym (reached-has (key z s p) k (page-in s p d fine) h)))
+      ∙ ap (λ (t : Bool). cut (cond t d 0) (tableOf b k)) (sym (reached-has z (b .slots) (key z s p) k (page-in s p d fine) h)))
 
   -- of a delete, the space aside
   wiped-is : 1 ≤ z .pages → (s : ℕ) → DeleteFine z b s

@@ -1,2 +1,3 @@
 pub mod Ended
 pub mod Demand3
+pub mod Fault

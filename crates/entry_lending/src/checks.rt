@@ -1,0 +1,107 @@
+// The numbers that refuse a map or a grant, in their order: first what the call names, then the lines of its pages.
+use entry as model;
+use lend::Link;
+use lend::Slot;
+use lend::pick;
+use model::Board;
+use model::lines::inside;
+use model::lines::key;
+use model::lines::line_has;
+use model::lines::meets;
+use model::sets::only;
+use model::sizes::PAGES;
+use model::sizes::SLOTS;
+use model::sizes::SPACES;
+use model::sound::live_at;
+use model::sound::sound;
+ghost use mathlib.Core.Path.{_≡_};
+ghost use Rattle.lend.specs.Lending.{grantSource};
+ghost use Rattle.lend_code.specs.Lending.{otherIn, namedNumber, linesNumber};
+ghost use Rattle.entry.specs.Sizes.{sizes};
+ghost use Rattle.entry.specs.Board.{tables};
+
+// 1 to 9: of the board, and of the spaces, pages and rights that are named; shut tells whether 9 applies.
+pub fn named_number(
+    b: Board,
+    from: u32,
+    page: u32,
+    to: u32,
+    at: u32,
+    rights: u32,
+    shut: bool,
+) -> u32
+    ensures { λ r. ⌜ r ≡ namedNumber sizes (tables b) from page to at rights shut ⌝ }
+{
+    let live = b.live;
+    let is_sound = sound(b);
+    let giver = from as usize;
+    let taker = to as usize;
+    let no_space = (SPACES <= giver) | (SPACES <= taker);
+    let dead = !live_at(live, giver) | !live_at(live, taker);
+    let no_page = (PAGES <= page as usize) | (PAGES <= at as usize);
+    let bad = (rights == 0) | (7 < rights);
+    pick(
+        !is_sound,
+        1,
+        pick(
+            no_space,
+            3,
+            pick(dead, 4, pick(no_page, 5, pick(bad, 6, pick(shut, 9, 0)))),
+        ),
+    )
+}
+
+// The source that 14 and 15 speak of in a grant: the giver's parent.
+pub fn source_of(link: Link, giver: usize) -> usize
+    ensures { λ r. ⌜ r ≡ grantSource sizes link giver ⌝ }
+{
+    match link {
+        Link::Nothing => giver,
+        Link::Frame(_) => giver,
+        Link::Page(space, page) => key(space, page),
+    }
+}
+
+// Whether a page of the space, other than this one, is in the set.
+fn other_in(set: [bool; SLOTS], space: usize, but: usize) -> bool
+    ensures { λ r. ⌜ r ≡ otherIn sizes set space but ⌝ }
+{
+    let mut k: usize = 0;
+    while k < SLOTS {
+        if set[k] & (k / PAGES == space) & !(k == but) {
+            return true;
+        }
+        k += 1;
+    }
+    false
+}
+
+// 11 to 15: of the giver's page and of the lines; under tells which pages have the taker on their line.
+pub fn lines_number(
+    slots: [Slot; SLOTS],
+    under: [bool; SLOTS],
+    giver: usize,
+    source: usize,
+    taker: usize,
+    rights: u8,
+) -> u32
+    ensures { λ r. ⌜ r ≡ linesNumber sizes slots under giver source taker rights ⌝ }
+{
+    let at = inside(giver);
+    let slot = slots[at];
+    let is_held = lend::held(slot);
+    let enough = lend::within(rights, slot.rights);
+    let to = taker / PAGES;
+    let ring = meets(slots, giver, to);
+    let source_below = other_in(under, source / PAGES, taker);
+    let taker_below = other_in(line_has(slots, only(source)), to, taker);
+    pick(
+        !is_held,
+        11,
+        pick(
+            !enough,
+            12,
+            pick(ring, 13, pick(source_below, 14, pick(taker_below, 15, 0))),
+        ),
+    )
+}

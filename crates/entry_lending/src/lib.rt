@@ -1,0 +1,5 @@
+// The calls that lend a page: map and grant. A board goes in by value and comes back with the answer; every input is taken.
+mod checks;
+pub mod grant;
+pub mod map;
+mod relink;

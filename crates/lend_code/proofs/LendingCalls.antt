@@ -1,0 +1,148 @@
+-- A map and a grant of the code from their numbers to their outcomes: refused, or accepted with all that the number 0 has shown.
+use mathlib.Core.Path.{_≡_, sym, ap, _∙_}
+use mathlib.Core.Bool.{Bool, _||_}
+use mathlib.Core.List.{List}
+use Prim.Native.Nat.{ℕ, _≤_}
+use native.Mathlib.Omega.{arith}
+use lib.Dec.{eqb}
+use lib.ListN.{length, set}
+use Rattle.lend.specs.declared.Link.{Link}
+use Rattle.lend.specs.declared.Link.the-variants.{Page}
+use Rattle.lend.specs.declared.Slot.{Slot}
+use Rattle.lend.specs.Sizes.{Sizes, slotCount, key}
+use Rattle.lend.specs.Rights.{allRights}
+use Rattle.lend.specs.Slots.{slotAt, lentSlot}
+use Rattle.lend.specs.Tables.{Tables, alone, tableOf}
+use Rattle.lend.specs.Sound.{SoundPages, Sound}
+use Rattle.lend.specs.Lending.{mapped, granted, giverLoses, grantSource}
+use Rattle.lend.specs.Calls.{Map, Grant, number, step, accept, refuse, boardAfter, memoryAfter, report}
+use Rattle.lend_laws.proofs.Flush.{flushed-sound}
+use Rattle.lend_laws.proofs.Spaces.{out-of-pool}
+use Rattle.lend_lending.proofs.Map.{Lendable, map-fine, length-mapped, mapped-sound}
+use Rattle.lend_lending.proofs.Grant.{GrantFine, grant-fine, lent-by, parent-lendable, giver-loses-small, length-granted, granted-is}
+use Rattle.lend_code.specs.Inner.{lineHas, onlyPage}
+use Rattle.lend_code.specs.Lending.{namedNumber, linesNumber, cutSlots, takenOf}
+use Rattle.lend_code.proofs.Fits.{key-in}
+use Rattle.lend_code.proofs.Calls.{call-refused, call-accepted}
+use Rattle.lend_code.proofs.Taken.{cut-flushed, taken-is}
+use Rattle.lend_code.proofs.LendingNumbers.{map-named, map-named-fine, map-lines, grant-named, grant-named-fine, grant-lines}
+
+-- ── the slots ────────────────────────────────────────────────────────────
+-- the pages with page y on their line lose d
+abbrev pub cutBelow : Sizes → List Slot → ℕ → ℕ → List Slot
+cutBelow z b y d = cutSlots z b (lineHas z b (onlyPage z y)) d
+
+-- what the code makes of the slots in a map: the taker's are cut, then it gets the slot
+abbrev pub linkedSlots : Sizes → List Slot → ℕ → Slot → List Slot
+linkedSlots z b t x = set (cutBelow z b t allRights) t x
+
+module _ (z : Sizes) (b : Tables) (sound : Sound z b) (s p u v r : ℕ) (m : Lendable z (b .live) (tableOf b) s p u v r) where
+  -- it is the map of the rules
+  linked-mapped : linkedSlots z (b .slots) (key z u v) (lentSlot s p r) ≡ mapped z s p (key z u v) r (b .slots)
+  unfolding mapped
+  linked-mapped =
+      ap (λ (l : List Slot). set l (key z u v) (lentSlot s p r))
+      (cut-flushed z (b .live) (b .slots) (sound .shape .live-long) (sound .shape .slots-long) (sound .pages) (key z u v) allRights (key-in z u v (m .taker-space) (m .taker-page)))
+
+  after-map : SoundPages z (b .live) (slotAt (mapped z s p (key z u v) r (b .slots)))
+  after-map = mapped-sound z (b .live) (b .slots) (sound .shape .live-long) (sound .shape .slots-long) (sound .pages) s p u v r m
+
+  long-map : length (mapped z s p (key z u v) r (b .slots)) ≡ slotCount z
+  long-map = length-mapped z s p (key z u v) r (b .slots) ∙ sound .shape .slots-long
+
+  -- an accepted map
+  map-is : takenOf z b (linkedSlots z (b .slots) (key z u v) (lentSlot s p r)) u v ≡ accept z (alone b) (Map s p u v r)
+  unfolding boardAfter memoryAfter report
+  map-is =
+      ap (λ (l : List Slot). takenOf z b l u v) linked-mapped
+      ∙ taken-is z b sound (mapped z s p (key z u v) r (b .slots)) u v (m .taker-page) long-map after-map
+
+-- what the code makes of the slots in a grant: the taker gets the giver's link, then the giver's are cut
+abbrev pub grantedSlots : Sizes → List Slot → ℕ → ℕ → ℕ → List Slot
+grantedSlots z b g t r = cutBelow z (linkedSlots z b t (record { link = slotAt b g .link; rights = r })) g (giverLoses r)
+
+module _ (z : Sizes) (b : Tables) (sound : Sound z b) (s p u v r : ℕ) (m : Lendable z (b .live) (tableOf b) s p u v r) (out : 1 ≤ s)
+    (x y : ℕ) (e : tableOf b (key z s p) .link ≡ Page x y) where
+  by-parent : Lendable z (b .live) (tableOf b) x y u v r
+  by-parent = parent-lendable z (b .live) (tableOf b) (sound .shape .live-long) (sound .pages) s p u v r m x y e
+
+  one : List Slot
+  one = mapped z x y (key z u v) r (b .slots)
+
+  -- it is the grant of the rules
+  slots-granted : grantedSlots z (b .slots) (key z s p) (key z u v) r ≡ granted z (key z s p) (key z u v) r (b .slots)
+  unfolding one
+  slots-granted =
+      ap (λ (l : Link). cutBelow z (linkedSlots z (b .slots) (key z u v) (record { link = l; rights = r })) (key z s p) (giverLoses r)) e
+      ∙ (ap (λ (l : List Slot). cutBelow z l (key z s p) (giverLoses r)) (linked-mapped z b sound x y u v r by-parent)
+      ∙ (cut-flushed z (b .live) one (sound .shape .live-long) (long-map z b sound x y u v r by-parent) (after-map z b sound x y u v r by-parent)
+      (key z s p) (giverLoses r) (key-in z s p (m .giver-space) (m .giver-page))
+      ∙ sym (granted-is z (key z s p) (key z u v) r (b .slots) x y e)))
+
+  after-grant : SoundPages z (b .live) (slotAt (granted z (key z s p) (key z u v) r (b .slots)))
+  unfolding one
+  after-grant =
+      rw (granted-is z (key z s p) (key z u v) r (b .slots) x y e)
+      (flushed-sound z (b .live) one (sound .shape .live-long) (after-map z b sound x y u v r by-parent) (key z s p) (giverLoses r) (out-of-pool z s p out)
+      (giver-loses-small r (omega (arith, m .known-rights))))
+
+  -- an accepted grant
+  grant-is : takenOf z b (grantedSlots z (b .slots) (key z s p) (key z u v) r) u v ≡ accept z (alone b) (Grant s p u v r)
+  unfolding boardAfter memoryAfter report
+  grant-is =
+      ap (λ (l : List Slot). takenOf z b l u v) slots-granted
+      ∙ taken-is z b sound (granted z (key z s p) (key z u v) r (b .slots)) u v (m .taker-page)
+      (length-granted z (key z s p) (key z u v) r (b .slots) ∙ sound .shape .slots-long) after-grant
+
+-- ── the calls, piece by piece ────────────────────────────────────────────
+-- n is the number of what is named; itself is the set of the taker alone, and m the number of the lines
+module _ (z : Sizes) (b : Tables) (s p u v r n : ℕ) (is : n ≡ namedNumber z b s p u v r (eqb u 0)) where
+  pub map-refused : (n ≡ 0 → ⊥) → refuse (alone b) n ≡ step z (alone b) (Map s p u v r)
+  map-refused h = call-refused z b (Map s p u v r) n (map-named z b s p u v r n is h) h
+
+  module _ (none : n ≡ 0) (itself under : List Bool) (m : ℕ) (is-itself : itself ≡ onlyPage z (key z u v)) (is-under : under ≡ lineHas z (b .slots) itself)
+      (is-m : m ≡ linesNumber z (b .slots) under (key z s p) (key z s p) (key z u v) r) where
+    map-counted : m ≡ number z (alone b) (Map s p u v r)
+    map-counted = map-lines z b s p u v r n is none m (is-m ∙ rw (is-under, is-itself))
+
+    pub map-refused-lines : (m ≡ 0 → ⊥) → refuse (alone b) m ≡ step z (alone b) (Map s p u v r)
+    map-refused-lines h = call-refused z b (Map s p u v r) m map-counted h
+
+    pub map-done : m ≡ 0 → (freed : List Slot) → freed ≡ cutSlots z (b .slots) under allRights
+        → takenOf z b (set freed (key z u v) (lentSlot s p r)) u v ≡ step z (alone b) (Map s p u v r)
+    map-done h freed is-freed =
+        rw (is-freed, is-under, is-itself)
+        (map-is z b (map-named-fine z b s p u v r n is none .sound) s p u v r (map-fine z (alone b) s p u v r (sym map-counted ∙ h) .lendable)
+        ∙ call-accepted z b (Map s p u v r) m map-counted h)
+
+module _ (z : Sizes) (b : Tables) (s p u v r n : ℕ) (is : n ≡ namedNumber z b s p u v r (eqb u 0 || eqb s 0)) where
+  pub grant-refused : (n ≡ 0 → ⊥) → refuse (alone b) n ≡ step z (alone b) (Grant s p u v r)
+  grant-refused h = call-refused z b (Grant s p u v r) n (grant-named z b s p u v r n is h) h
+
+  module _ (none : n ≡ 0) (itself under : List Bool) (source m : ℕ) (is-itself : itself ≡ onlyPage z (key z u v)) (is-under : under ≡ lineHas z (b .slots) itself)
+      (is-source : source ≡ grantSource z (tableOf b (key z s p) .link) (key z s p)) (is-m : m ≡ linesNumber z (b .slots) under (key z s p) source (key z u v) r) where
+    grant-counted : m ≡ number z (alone b) (Grant s p u v r)
+    grant-counted = grant-lines z b s p u v r n is none m (is-m ∙ rw (is-source, is-under, is-itself))
+
+    pub grant-refused-lines : (m ≡ 0 → ⊥) → refuse (alone b) m ≡ step z (alone b) (Grant s p u v r)
+    grant-refused-lines h = call-refused z b (Grant s p u v r) m grant-counted h
+
+    -- the giver alone, and the pages with the giver on their line once the link is made
+    pub grant-done : m ≡ 0 → (freed : List Slot) → freed ≡ cutSlots z (b .slots) under allRights
+        → (new : List Slot) → new ≡ set freed (key z u v) (record { link = tableOf b (key z s p) .link; rights = r })
+        → (giver : List Bool) → giver ≡ onlyPage z (key z s p) → (below : List Bool) → below ≡ lineHas z new giver
+        → (d : ℕ) → d ≡ giverLoses r → (last : List Slot) → last ≡ cutSlots z new below d
+        → takenOf z b last u v ≡ step z (alone b) (Grant s p u v r)
+    grant-done h freed is-freed new is-new giver is-giver below is-below d is-d last is-last =
+        rw (is-last, is-d, is-below, is-giver, is-new, is-freed, is-under, is-itself)
+        (grant-is z b sound s p u v r (fine .lendable) (fine .giver-out) (lent .0) (lent .1) (lent .2)
+        ∙ call-accepted z b (Grant s p u v r) m grant-counted h)
+      where
+        fine : GrantFine z b s p u v r
+        fine = grant-fine z (alone b) s p u v r (sym grant-counted ∙ h)
+
+        sound : Sound z b
+        sound = grant-named-fine z b s p u v r n is none .sound
+
+        lent : (x : ℕ) × (y : ℕ) × (tableOf b (key z s p) .link ≡ Page x y)
+        lent = lent-by z (b .live) (tableOf b) (sound .pages) (key z s p) (out-of-pool z s p (fine .giver-out)) (fine .lendable .giver-held)
