@@ -8,8 +8,6 @@ use native.Mathlib.Decide.{decLt}
 use native.Mathlib.Omega.{arith}
 use lib.ListN.{length, getD, length-append, length-map, List·getD-append, List·getD-map}
 use lib.Seq.{getD-append-add}
-use Rattle.lend.specs.declared.Slot.{Slot}
-use Rattle.lend.specs.declared.Place.{Place}
 use Rattle.lend.specs.Sizes.{Sizes, slotCount}
 use Rattle.lend.specs.Slots.{emptySlot, slotAt}
 use Rattle.lend.specs.Tables.{Tables, Shaped, alive}

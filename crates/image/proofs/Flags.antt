@@ -1,5 +1,5 @@
 -- A flag that a loop keeps beside its work: that every number so far has passed a test.
-use Prim.Native.Nat.{ℕ, _+_, _≤_}
+use Prim.Native.Nat.{ℕ, _+_}
 use mathlib.Core.Path.{_≡_, refl}
 use mathlib.Core.Bool.{Bool, true, _&&_}
 use native.Mathlib.Numerals.{add-one}

@@ -1,8 +1,8 @@
 -- Reading an image undoes writing it, and the other way round; bytes that are no image give a board that is not sound.
-use Prim.Native.Nat.{ℕ, zero, suc, _+_, _*_, _≤_, _<_}
+use Prim.Native.Nat.{ℕ, zero, suc, _+_, _*_, _<_}
 use mathlib.Core.Path.{_≡_, refl, sym, ap, _∙_}
 use mathlib.Core.Bool.{Bool, true, false, _&&_, _||_}
-use mathlib.Core.List.{List, [], _∷_}
+use mathlib.Core.List.{List}
 use native.Mathlib.Omega.{arith}
 use lib.Dec.{T, eqb, leb, eqb→eq, leb→le}
 use lib.ListN.{length, getD, replicate}
@@ -13,14 +13,13 @@ use Rattle.lend.specs.declared.Link.the-variants.{Nothing, Frame, Page}
 use Rattle.lend.specs.declared.Slot.{Slot}
 use Rattle.lend.specs.declared.Place.{Place}
 use Rattle.lend.specs.Sizes.{Sizes, slotCount}
-use Rattle.lend.specs.Lists.{every, tabulate}
 use Rattle.lend.specs.Slots.{emptySlot, slotAt}
-use Rattle.lend.specs.Tables.{Tables, Shaped, tableOf, alive}
+use Rattle.lend.specs.Tables.{Tables, Shaped, alive}
 use Rattle.lend.specs.Cache.{emptyPlace, placeAt}
-use Rattle.lend.specs.SoundTest.{soundTest, shapeTest, pagesTest, cacheTest}
+use Rattle.lend.specs.SoundTest.{soundTest, pagesTest}
 use Rattle.lend_basics.proofs.Bools.{and-l, and-r, and-i, is-true, is-false}
 use Rattle.lend_basics.proofs.Lists.{length-tabulate, tabulate-at, each, every-of}
-use Rattle.image.specs.Image.{kindOf, firstIn, secondIn, slotBytes, liveByte, placeBytes, imageOf, liveFrom, cacheFrom, nextFrom, imageBytes, byteAt, linkReads, linkFrom, slotFrom, placeFrom, slotReads, slotIn, placeIn, slotsRead, liveReads, isImage, slotsIn, liveIn, placesIn, tablesIn, noBoard, boardFrom, written}
+use Rattle.image.specs.Image.{kindOf, firstIn, secondIn, slotBytes, liveByte, placeBytes, imageOf, liveFrom, cacheFrom, nextFrom, imageBytes, byteAt, linkReads, linkFrom, slotFrom, placeFrom, slotReads, slotIn, placeIn, slotsRead, liveReads, isImage, slotsIn, liveIn, placesIn, tablesIn, noBoard, boardFrom}
 use Rattle.image.proofs.Bytes.{image-long, image-slot, image-live, image-place, image-next, Parts, each-byte}
 
 -- ── one link, one live byte ──────────────────────────────────────────────
@@ -256,3 +255,8 @@ module _ (z : Sizes) (bytes : List ℕ) where
         → (record { slots = slots; live = live; places = places; next = byteAt bytes (nextFrom z) }) ≡ boardFrom z bytes
     unfolding boardFrom isImage tablesIn
     board-good slots live places e h p q r = rw (eq-eqb (length bytes) (imageBytes z) e, ← of-slots, ← of-live, h) (λ i. record { slots = p i; live = q i; places = r i; next = byteAt bytes (nextFrom z) })
+
+-- the board of bytes that are no image is not sound
+pub not-image : (z : Sizes) (bytes : List ℕ) → isImage z bytes ≡ false → soundTest z (boardFrom z bytes) ≡ false
+unfolding boardFrom
+not-image z bytes e = rw e (no-board z)

@@ -1,22 +1,18 @@
 -- Bytes that are written one after the other over others: what a loop of writes has done, how two of them join, and the whole image.
-use Prim.Native.Nat.{ℕ, _+_, _*_, _-_, _≤_, _<_}
+use Prim.Native.Nat.{ℕ, _+_, _*_, _-_, _<_}
 use mathlib.Core.Path.{_≡_, refl, sym, ap, subst, _∙_}
 use mathlib.Core.Bool.{Bool, true, false}
 use mathlib.Core.List.{List, [], _∷_, _++_, map}
 use native.Mathlib.Nat.{not-suc-le-zero}
 use native.Mathlib.Decide.{decLt}
 use native.Mathlib.Omega.{arith}
-use lib.ListN.{length, getD, set, length-set, length-map, List·getD-append, List·getD-map}
+use lib.ListN.{length, getD, set, length-set, List·getD-append, List·getD-map}
 use mir.Val.{boolByte}
 use lib.Seq.{ext-getD, getD-set-same, getD-set-other, getD-append-add}
 use borrow.Author.Count.{below-more}
 use borrow.Author.Tests.{eq-eqb, ne-eqb}
-use Rattle.lend.specs.declared.Slot.{Slot}
-use Rattle.lend.specs.declared.Place.{Place}
-use Rattle.lend.specs.Sizes.{Sizes, slotCount}
-use Rattle.lend.specs.Slots.{emptySlot, slotAt}
+use Rattle.lend.specs.Sizes.{Sizes}
 use Rattle.lend.specs.Tables.{Tables, Shaped, alive}
-use Rattle.lend.specs.Cache.{emptyPlace, placeAt}
 use Rattle.image.specs.Image.{slotBytes, liveByte, placeBytes, joined, imageOf, liveFrom, cacheFrom, nextFrom, imageBytes, written}
 use Rattle.image.specs.Put.{PutTo}
 use Rattle.image.proofs.Bytes.{joined-at, image-long, slots-long, live-long, places-long}

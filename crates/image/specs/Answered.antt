@@ -1,8 +1,7 @@
 -- What a call from C leaves behind. One form for all of them, over the step of the rules: the number that comes back, and every byte of
 -- the image, of the memory and of the out fields.
 use Prim.Native.Nat.{ℕ}
-use mathlib.Core.Path.{_≡_}
-use mathlib.Core.Bool.{Bool, cond}
+use mathlib.Core.Bool.{cond}
 use mathlib.Core.List.{List, [], _∷_}
 use lib.ListN.{length}
 use lib.Dec.{eqb}
@@ -32,28 +31,31 @@ outOf (Translate space address rights) r = fourOf (r .address) (cond (r .hit) 1 
 outOf (Load space address) r = fourOf (r .byte) 0
 outOf (Store space address byte) r = fourOf 0 0
 
--- a call on an image and a memory that gave the number n, with what stands in the image, the memory and the out fields after it
-pub record Left (z : Sizes) (call : Call) (o : Outcome) (image : List ℕ) (n : ℕ) (image′ memory′ out′ : List ℕ) : Type 0 where
-  pub number : n ≡ o .reply .number
-  -- only a call that is done writes the image
-  pub image-after : image′ ≡ cond (eqb n 0) (imageOf (o .state .board)) image
-  pub memory-after : memory′ ≡ o .state .memory
-  pub out-after : out′ ≡ outOf call (o .reply)
+-- all that a call leaves: the number, and what stands in the image, the memory and the out fields after it
+pub record Left : Type 0 where
+  pub number : ℕ
+  pub image : List ℕ
+  pub memory : List ℕ
+  pub out : List ℕ
 
-abbrev pub Answered : Sizes → Call → List ℕ → List ℕ → ℕ → List ℕ → List ℕ → List ℕ → Type 0
-Answered z call image memory n image′ memory′ out′ = Left z call (step z (given z image memory) call) image n image′ memory′ out′
+abbrev pub left : ℕ → List ℕ → List ℕ → List ℕ → Left
+left n image memory out = record { number = n; image = image; memory = memory; out = out }
 
--- what the last part of a call leaves, for the board, the number and the two out fields that it is given
-pub record Finished (z : Sizes) (t : Tables) (number first second : ℕ) (image : List ℕ) (n : ℕ) (image′ out′ : List ℕ) : Type 0 where
-  pub number-back : n ≡ number
-  pub image-after : image′ ≡ cond (eqb number 0) (written z image t) image
-  pub out-after : out′ ≡ fourOf first second
+-- by the outcome of the rules; only a call that is done writes the image
+abbrev pub leftBy : Call → List ℕ → Outcome → Left
+leftBy call image o =
+    left (o .reply .number) (cond (eqb (o .reply .number) 0) (imageOf (o .state .board)) image) (o .state .memory) (outOf call (o .reply))
+
+unfoldable pub answerTo : Sizes → Call → List ℕ → List ℕ → Left
+answerTo z call image memory = leftBy call image (step z (given z image memory) call)
 
 -- start writes the start board over any bytes of the right length
-pub record Started (z : Sizes) (image : List ℕ) (n : ℕ) (image′ out′ : List ℕ) : Type 0 where
-  pub number : n ≡ cond (eqb (length image) (imageBytes z)) 0 1
-  pub image-after : image′ ≡ written z image (startBoard z)
-  pub out-after : out′ ≡ fourOf 0 0
+unfoldable pub startAnswer : Sizes → List ℕ → Left
+startAnswer z image = left (cond (eqb (length image) (imageBytes z)) 0 1) (written z image (startBoard z)) [] (fourOf 0 0)
+
+-- what the last part of a call leaves, for the board, the number and the two out fields that it is given
+unfoldable pub finishing : Sizes → Tables → ℕ → ℕ → ℕ → List ℕ → Left
+finishing z t n first second image = left n (cond (eqb n 0) (written z image t) image) [] (fourOf first second)
 
 -- 1 where the image is a sound board's, else 0
 abbrev pub soundNumber : Sizes → List ℕ → ℕ

@@ -1,10 +1,6 @@
 -- `no_board` meets its contract: arrays of one value.
 use Rattle.entry_image.proofs as own
 use Rattle.image.proofs.Image.{no-board-made}
-use Prim.Native.Nat.{_+_, _*_, _-_, _≤_}
-use mathlib.Core.Path.{_≡_, refl, sym, _∙_}
-use native.Mathlib.Omega.{arith}
-use lib.ListN.{length}
 use Rattle.entry.specs.Sizes.{sizes}
 use borrow.Author.Needs.{needs}
 use own.read.no_board.Statement.{statement}

@@ -1,7 +1,6 @@
 -- `read_image` meets its contract: the tests are those of an image, and the parts are read one by one.
 use Rattle.entry_image.proofs as own
 use borrow.Author.Tests.{not-true, not-false}
-use mathlib.Core.Path.{_≡_, refl, _∙_}
 use Rattle.image.proofs.Image.{board-short, board-bad, board-good}
 use Rattle.entry.specs.Sizes.{sizes}
 use borrow.Author.Needs.{needs}
@@ -24,7 +23,7 @@ no-board-requires-2 : tie.Need-no-board-requires-2
 no-board-requires-2 c κs = search needs
 
 returns-2 : tie.Need-returns-2
-returns-2 c = 
+returns-2 c =
     board-bad sizes _ _ _ (c .before .before .before .before .before .read-slots .ensures .0) (c .before .before .before .before .read-live .ensures .0) _ (not-true _ (c .before .if2 .taken)) (c .no-board2 .ensures)
 
 read-places-requires : tie.Need-read-places-requires
@@ -34,7 +33,7 @@ shared-slice-read-t11 : tie.Need-shared-slice-read-t11
 shared-slice-read-t11 c = search needs
 
 returns-3 : tie.Need-returns-3
-returns-3 c = 
+returns-3 c =
     let slots = c .before .before .before .before .before .before .before .before .read-slots .ensures in
     let live = c .before .before .before .before .before .before .before .read-live .ensures in
     board-good sizes _ _ _ (slots .0) (live .0) _ _ _ (c .before .before .before .before .before .before .before .before .before .if1 .left) (not-false _ (c .before .before .before .before .if2 .left)) (slots .1) (live .1) (c .before .read-places .ensures)

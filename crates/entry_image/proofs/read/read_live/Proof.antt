@@ -1,9 +1,8 @@
 -- `read_live` meets its contract. The invariant: the first s live bytes are read, and the flag tells whether all of them are 0 or 1.
 use Rattle.entry_image.proofs as own
-use Prim.Native.Nat.{_+_, _*_, _-_, _≤_}
-use mathlib.Core.Path.{_≡_, refl, sym, _∙_}
+use Prim.Native.Nat.{_+_, _-_, _≤_}
+use mathlib.Core.Path.{refl}
 use native.Mathlib.Omega.{arith}
-use lib.ListN.{length}
 use Rattle.entry.specs.Sizes.{sizes}
 use lib.Dec.{eqb, leb}
 use mathlib.Core.Bool.{false}
@@ -39,9 +38,8 @@ loop-less : tie.Need-loop-less Inv-loop μ-loop
 loop-less c = search needs
 
 loop-again : tie.Need-loop-again Inv-loop μ-loop
-loop-again c = 
-    let at-loop = c .before .before .loop in
-    (
+loop-again c =
+    let at-loop = c .before .before .loop in (
       built-more _ _ _ _ _ _ (at-loop .inv .0) (c .before .loop-test .taken) refl,
       flag-more _ _ _ _ (at-loop .inv .1) refl,
       omega (arith, c .before .loop-test .taken),

@@ -1,9 +1,8 @@
 -- `read_places` meets its contract. The invariant: the first i places are read.
 use Rattle.entry_image.proofs as own
 use Prim.Native.Nat.{_+_, _*_, _-_, _≤_}
-use mathlib.Core.Path.{_≡_, refl, sym, _∙_}
+use mathlib.Core.Path.{refl}
 use native.Mathlib.Omega.{arith}
-use lib.ListN.{length}
 use Rattle.entry.specs.Sizes.{sizes}
 use Rattle.lend.specs.Cache.{emptyPlace}
 use Rattle.lend_basics.proofs.Loops.{Built, built-none, built-more, built-all}
@@ -67,7 +66,7 @@ loop-less : tie.Need-loop-less Inv-loop μ-loop
 loop-less c = search needs
 
 loop-again : tie.Need-loop-again Inv-loop μ-loop
-loop-again c = 
+loop-again c =
     let taken = c .before .before .before .before .before .loop-test .taken in
     (built-more _ _ _ _ _ _ (c .before .before .before .before .before .before .loop .inv .0) taken (c .place-from .ensures), omega (arith, taken))
 

@@ -1,9 +1,8 @@
 -- `read_slots` meets its contract. The invariant: the first k slots are read, and the flag tells whether all of them read.
 use Rattle.entry_image.proofs as own
-use Prim.Native.Nat.{_+_, _*_, _-_, _≤_}
-use mathlib.Core.Path.{_≡_, refl, sym, _∙_}
+use Prim.Native.Nat.{_*_, _-_, _≤_}
+use mathlib.Core.Path.{refl}
 use native.Mathlib.Omega.{arith}
-use lib.ListN.{length}
 use Rattle.entry.specs.Sizes.{sizes}
 use Rattle.lend.specs.Sizes.{slotCount}
 use Rattle.lend.specs.Slots.{emptySlot}
@@ -69,9 +68,8 @@ loop-less : tie.Need-loop-less Inv-loop μ-loop
 loop-less c = search needs
 
 loop-again : tie.Need-loop-again Inv-loop μ-loop
-loop-again c = 
-    let at-loop = c .before .before .before .before .before .before .before .loop in
-    (
+loop-again c =
+    let at-loop = c .before .before .before .before .before .before .before .loop in (
       built-more _ _ _ _ _ _ (at-loop .inv .0) (c .before .before .before .before .before .before .loop-test .taken) (c .slot-from .ensures),
       flag-more _ _ _ _ (at-loop .inv .1) (c .before .before .link-reads .ensures),
       omega (arith, c .before .before .before .before .before .before .loop-test .taken),

@@ -1,6 +1,6 @@
 -- `write_image` meets its contract: the parts are written one after the other, which is the whole image.
 use Rattle.entry_image.proofs as own
-use mathlib.Core.Path.{_≡_, refl, _∙_}
+use mathlib.Core.Path.{_∙_}
 use Rattle.lend.specs.Tables.{Shaped}
 use Rattle.lend_basics.proofs.Lists.{length-unmap}
 use lib.ListN.{length-set}
@@ -31,7 +31,7 @@ same-length : tie.Need-same-length
 same-length c = simp length-set (c .before .before .write-places .ensures .long ∙ (c .before .before .before .before .before .before .write-live .ensures .long ∙ c .before .before .before .before .before .before .before .before .before .before .write-slots .ensures .long))
 
 returns : tie.Need-returns
-returns c = 
+returns c =
     let start = c .before .before .before .before .before .before .before .before .before .before .before .before .before .before .before .before .before .before in
     put-image sizes (tables (start .args .b)) (shaped start) (start .args .image .now) _ _ _ (c .before .before .before .before .before .before .before .before .before .before .before .before .before .before .before .before .if1 .taken)
     (c .before .before .before .before .before .before .before .before .before .before .write-slots .ensures) (c .before .before .before .before .before .before .write-live .ensures) (c .before .before .write-places .ensures)

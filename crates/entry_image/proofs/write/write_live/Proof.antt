@@ -1,10 +1,9 @@
 -- `write_live` meets its contract. The invariant: the first s live bytes are written, and all else is as it was.
 use Rattle.entry_image.proofs as own
 use Rattle.lend.specs.Tables.{alive}
-use Prim.Native.Nat.{_+_, _*_, _-_, _≤_}
-use mathlib.Core.Path.{_≡_, refl, sym, _∙_}
+use Prim.Native.Nat.{_-_, _≤_}
+use mathlib.Core.Path.{refl}
 use native.Mathlib.Omega.{arith}
-use lib.ListN.{length}
 use Rattle.entry.specs.Sizes.{sizes}
 use mathlib.Core.List.{map}
 use Rattle.image.specs.Image.{liveByte, liveFrom}
@@ -42,9 +41,8 @@ loop-less : tie.Need-loop-less Inv-loop μ-loop
 loop-less c = search needs
 
 loop-again : tie.Need-loop-again Inv-loop μ-loop
-loop-again c = 
-    let live = c .before .before .args .t2 in
-    (
+loop-again c =
+    let live = c .before .before .args .t2 in (
       put-live live _ _ _ _ _ _ (c .before .loop .inv .0) refl (omega (arith, c .loop-test .taken, c .before .before .pre)) (live-cast (alive live (c .before .loop .s))),
       omega (arith, c .loop-test .taken),
     )

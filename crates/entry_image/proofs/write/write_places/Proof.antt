@@ -2,11 +2,10 @@
 use Rattle.entry_image.proofs as own
 use lib.ListN.{length-set}
 use Prim.Native.Nat.{_+_, _*_, _-_, _≤_}
-use mathlib.Core.Path.{_≡_, refl, sym, _∙_}
+use mathlib.Core.Path.{_≡_, refl}
 use native.Mathlib.Omega.{arith}
 use lib.ListN.{length}
 use Rattle.entry.specs.Sizes.{sizes}
-use mathlib.Core.List.{[], _∷_}
 use Rattle.lend.specs.Cache.{emptyPlace, placeAt}
 use Rattle.image.specs.Image.{placeBytes, joined, cacheFrom}
 use Rattle.image.specs.Put.{PutTo}
@@ -67,15 +66,14 @@ loop-less : tie.Need-loop-less Inv-loop μ-loop
 loop-less c = search needs
 
 loop-again : tie.Need-loop-again Inv-loop μ-loop
-loop-again c = 
+loop-again c =
     let at-loop = c .before .before in
     let start = at-loop .before in
     let taken = c .before .loop-test .taken in
-    let place = placeAt (start .args .t2) (at-loop .loop .i) in
-    (
+    let place = placeAt (start .args .t2) (at-loop .loop .i) in (
       put-element placeBytes (λ x. refl) emptyPlace (start .args .t2) (cacheFrom sizes) (start .args .image .now) (at-loop .loop .image) (at-loop .loop .i) (cacheFrom sizes + 4 * at-loop .loop .i)
-      (at-loop .loop .inv .0) refl (omega (arith, taken, start .pre)) (omega (arith, taken, long start))
-      (place .space) (place .page) (place .frame) (place .rights) refl,
+          (at-loop .loop .inv .0) refl (omega (arith, taken, start .pre)) (omega (arith, taken, long start))
+          (place .space) (place .page) (place .frame) (place .rights) refl,
       omega (arith, taken),
     )
 

@@ -2,15 +2,15 @@
 use Rattle.entry_image.proofs as own
 use lib.ListN.{length-set}
 use Rattle.lend.specs.Slots.{slotAt}
-use Prim.Native.Nat.{_+_, _*_, _-_, _≤_}
-use mathlib.Core.Path.{_≡_, refl, sym, _∙_}
+use Prim.Native.Nat.{_*_, _-_, _≤_}
+use mathlib.Core.Path.{_≡_, refl}
 use native.Mathlib.Omega.{arith}
 use lib.ListN.{length}
 use Rattle.entry.specs.Sizes.{sizes}
 use Rattle.lend.specs.Sizes.{slotCount}
 use Rattle.lend.specs.Slots.{emptySlot}
 use mathlib.Core.List.{[], _∷_}
-use Rattle.image.specs.Image.{slotBytes, joined, imageBytes}
+use Rattle.image.specs.Image.{slotBytes, joined}
 use Rattle.image.specs.Put.{PutTo}
 use Rattle.image.proofs.Put.{put-none, put-element, put-as}
 use borrow.Author.Needs.{needs}
@@ -75,16 +75,15 @@ loop-less : tie.Need-loop-less Inv-loop μ-loop
 loop-less c = search needs
 
 loop-again : tie.Need-loop-again Inv-loop μ-loop
-loop-again c = 
+loop-again c =
     let at-loop = c .before .before .before .before .before in
     let start = at-loop .before .before in
     let taken = c .before .before .before .before .loop-test .taken in
-    let rights = slotAt (start .args .t2) (at-loop .loop .k) .rights in
-    (
+    let rights = slotAt (start .args .t2) (at-loop .loop .k) .rights in (
       put-element slotBytes (λ x. refl) emptySlot (start .args .t2) 0 (start .args .image .now) (at-loop .loop .image) (at-loop .loop .k) (4 * at-loop .loop .k)
-      (at-loop .loop .inv .0) (omega arith) (omega (arith, taken, start .pre)) (omega (arith, taken, long start))
-      (c .before .before .kind .result) (c .before .first .result) (c .second .result) rights
-      (λ i. c .before .before .kind .ensures i ∷ c .before .first .ensures i ∷ c .second .ensures i ∷ rights ∷ []),
+          (at-loop .loop .inv .0) (omega arith) (omega (arith, taken, start .pre)) (omega (arith, taken, long start))
+          (c .before .before .kind .result) (c .before .first .result) (c .second .result) rights
+          (λ i. c .before .before .kind .ensures i ∷ c .before .first .ensures i ∷ c .second .ensures i ∷ rights ∷ []),
       omega (arith, taken),
     )
 

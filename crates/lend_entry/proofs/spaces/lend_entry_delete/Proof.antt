@@ -22,7 +22,7 @@ same-length : tie.Need-same-length
 same-length c = search needs
 
 returns : tie.Need-returns
-returns c = 
+returns c =
     let a = c .before .before .before .before .before .before .before .before .before .before .args in
     let made = c .before .before .before .before .before .before in
     answered-on sizes (Delete (a .space)) _ _ _ (outcome (made .delete .result)) (made .before .read-image .ensures) (made .delete .ensures) _ _ _ _ _ _ (c .before .before .finish .ensures) refl refl
