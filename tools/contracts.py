@@ -22,6 +22,8 @@ WITH_MEMORY = {
     'loaded': 'loadedOf-loaded (specs/Answers.antt)',
     'stored': 'storedOf-stored, memory too (specs/Answers.antt)',
 }
+# views of the number and of every byte that was lent
+LEFT = 'all that comes back: the number, and every byte of image, memory and out'
 # structs with one field, which is then all of them
 FIELDS = {
     'frame': 'the only field of a Lookup',
@@ -59,6 +61,12 @@ def determined(clause):
     m = re.fullmatch(rf'(\w+) {result} \(now \(memory \.(?:entry|exit)\)\) ≡ (.*)', fact)
     if m and m.group(1) in WITH_MEMORY:
         return WITH_MEMORY[m.group(1)], m.group(2)
+    m = re.fullmatch(rf'left {result} \(now \(image \.exit\)\) (?:\[\]|\(now \(memory \.\w+\)\)) \(now \(out \.exit\)\) ≡ (.*)', fact)
+    if m:
+        return LEFT, m.group(1)
+    m = re.fullmatch(r'now \(image \.exit\) ≡ (.*)', fact)
+    if m and result == '_':
+        return 'every byte of the image', m.group(1)
     m = re.fullmatch(rf'{result} \.(\w+) ≡ (.*)', fact)
     if m and m.group(1) in FIELDS:
         return FIELDS[m.group(1)], m.group(2)

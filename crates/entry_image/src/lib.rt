@@ -1,0 +1,3 @@
+// A board of this model as bytes: read from any bytes, and written over bytes of the right length.
+pub mod read;
+pub mod write;

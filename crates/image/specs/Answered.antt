@@ -1,0 +1,62 @@
+-- What a call from C leaves behind. One form for all of them, over the step of the rules: the number that comes back, and every byte of
+-- the image, of the memory and of the out fields.
+use Prim.Native.Nat.{ℕ}
+use mathlib.Core.Bool.{cond}
+use mathlib.Core.List.{List, [], _∷_}
+use lib.ListN.{length}
+use lib.Dec.{eqb}
+use Rattle.lend.specs.Sizes.{Sizes}
+use Rattle.lend.specs.Tables.{Tables, State}
+use Rattle.lend.specs.SoundTest.{soundTest}
+use Rattle.lend.specs.Start.{startBoard}
+use Rattle.lend.specs.Calls.{Call, Create, Delete, Unmap, Flush, Map, Grant, Translate, Load, Store, Reply, Outcome, step}
+use Rattle.image.specs.Image.{imageOf, imageBytes, boardFrom, written}
+
+-- the board of the image, and the memory beside it
+abbrev pub given : Sizes → List ℕ → List ℕ → State
+given z image memory = record { board = boardFrom z image; memory = memory }
+
+abbrev pub fourOf : ℕ → ℕ → List ℕ
+fourOf x y = x ∷ y ∷ 0 ∷ 0 ∷ []
+
+-- the out fields; a refusal's reply has every field 0, and so have they
+abbrev pub outOf : Call → Reply → List ℕ
+outOf (Create space) r = fourOf (r .emptied) 0
+outOf (Delete space) r = fourOf (r .emptied) 0
+outOf (Unmap space page rights) r = fourOf (r .emptied) 0
+outOf (Flush space page rights) r = fourOf (r .emptied) 0
+outOf (Map from page to at rights) r = fourOf (r .emptied) 0
+outOf (Grant from page to at rights) r = fourOf (r .emptied) 0
+outOf (Translate space address rights) r = fourOf (r .address) (cond (r .hit) 1 0)
+outOf (Load space address) r = fourOf (r .byte) 0
+outOf (Store space address byte) r = fourOf 0 0
+
+-- all that a call leaves: the number, and what stands in the image, the memory and the out fields after it
+pub record Left : Type 0 where
+  pub number : ℕ
+  pub image : List ℕ
+  pub memory : List ℕ
+  pub out : List ℕ
+
+abbrev pub left : ℕ → List ℕ → List ℕ → List ℕ → Left
+left n image memory out = record { number = n; image = image; memory = memory; out = out }
+
+-- by the outcome of the rules; only a call that is done writes the image
+abbrev pub leftBy : Call → List ℕ → Outcome → Left
+leftBy call image o =
+    left (o .reply .number) (cond (eqb (o .reply .number) 0) (imageOf (o .state .board)) image) (o .state .memory) (outOf call (o .reply))
+
+unfoldable pub answerTo : Sizes → Call → List ℕ → List ℕ → Left
+answerTo z call image memory = leftBy call image (step z (given z image memory) call)
+
+-- start writes the start board over any bytes of the right length
+unfoldable pub startAnswer : Sizes → List ℕ → Left
+startAnswer z image = left (cond (eqb (length image) (imageBytes z)) 0 1) (written z image (startBoard z)) [] (fourOf 0 0)
+
+-- what the last part of a call leaves, for the board, the number and the two out fields that it is given
+unfoldable pub finishing : Sizes → Tables → ℕ → ℕ → ℕ → List ℕ → Left
+finishing z t n first second image = left n (cond (eqb n 0) (written z image t) image) [] (fourOf first second)
+
+-- 1 where the image is a sound board's, else 0
+abbrev pub soundNumber : Sizes → List ℕ → ℕ
+soundNumber z image = cond (soundTest z (boardFrom z image)) 1 0
