@@ -1,0 +1,203 @@
+//! The calls of a board, what comes back from them, and the numbers of 01's table.
+
+pub const READ: u8 = 4;
+pub const WRITE: u8 = 2;
+pub const ALL_RIGHTS: u8 = 7;
+
+/// Why a call is refused: 01, "Numbers that come back".
+#[derive(Clone, Copy, Debug, PartialEq, Eq)]
+pub enum Refusal {
+    Unsound = 1,
+    Memory = 2,
+    Space = 3,
+    NotLive = 4,
+    Page = 5,
+    Rights = 6,
+    Range = 7,
+    RangesDiffer = 8,
+    Pool = 9,
+    Live = 10,
+    Empty = 11,
+    NotHeld = 12,
+    Ring = 13,
+    SourceBelow = 14,
+    TakerBelow = 15,
+}
+
+impl Refusal {
+    pub fn number(self) -> u32 {
+        self as u32
+    }
+}
+
+/// The number of a malformed script line.
+pub const MALFORMED: u32 = 16;
+
+/// How many numbers the table has, 0 included.
+pub const NUMBERS: usize = 17;
+
+/// What unmap and flush take.
+#[derive(Clone, Copy, Debug, PartialEq, Eq)]
+pub struct Withdrawal {
+    pub space: u32,
+    pub page: u32,
+    pub rights: u32,
+}
+
+/// What map and grant take: the giver's space and page, the taker's space and page, rights.
+#[derive(Clone, Copy, Debug, PartialEq, Eq)]
+pub struct Lending {
+    pub from: u32,
+    pub page: u32,
+    pub to: u32,
+    pub at: u32,
+    pub rights: u32,
+}
+
+/// A call with its parameters, which may be any numbers.
+#[derive(Clone, Copy, Debug, PartialEq, Eq)]
+pub enum Call {
+    Start,
+    Sound,
+    Create { space: u32 },
+    Delete { space: u32 },
+    Unmap(Withdrawal),
+    Flush(Withdrawal),
+    Map(Lending),
+    Grant(Lending),
+    Translate { space: u32, address: u32, rights: u32 },
+    Load { space: u32, address: u32 },
+    Store { space: u32, address: u32, value: u8 },
+}
+
+/// Which call it is.
+#[derive(Clone, Copy, Debug, PartialEq, Eq)]
+pub enum Kind {
+    Start,
+    Create,
+    Delete,
+    Unmap,
+    Flush,
+    Map,
+    Grant,
+    Translate,
+    Load,
+    Store,
+    Sound,
+}
+
+impl Call {
+    pub fn kind(&self) -> Kind {
+        match self {
+            Call::Start => Kind::Start,
+            Call::Sound => Kind::Sound,
+            Call::Create { .. } => Kind::Create,
+            Call::Delete { .. } => Kind::Delete,
+            Call::Unmap(_) => Kind::Unmap,
+            Call::Flush(_) => Kind::Flush,
+            Call::Map(_) => Kind::Map,
+            Call::Grant(_) => Kind::Grant,
+            Call::Translate { .. } => Kind::Translate,
+            Call::Load { .. } => Kind::Load,
+            Call::Store { .. } => Kind::Store,
+        }
+    }
+}
+
+impl Kind {
+    /// How many kinds there are.
+    pub const COUNT: usize = 11;
+
+    /// The calls that a script has.
+    pub const SCRIPT: [Kind; 7] =
+        [Kind::Create, Kind::Delete, Kind::Unmap, Kind::Flush, Kind::Map, Kind::Grant, Kind::Translate];
+
+    /// The calls of the library that answer a number of the table (`sound` answers yes or no).
+    pub const LIBRARY: [Kind; 10] = [
+        Kind::Start,
+        Kind::Create,
+        Kind::Delete,
+        Kind::Unmap,
+        Kind::Flush,
+        Kind::Map,
+        Kind::Grant,
+        Kind::Translate,
+        Kind::Load,
+        Kind::Store,
+    ];
+
+    /// The calls that act on a board, so all but start and sound.
+    pub const BOARD: [Kind; 9] = [
+        Kind::Create,
+        Kind::Delete,
+        Kind::Unmap,
+        Kind::Flush,
+        Kind::Map,
+        Kind::Grant,
+        Kind::Translate,
+        Kind::Load,
+        Kind::Store,
+    ];
+
+    pub fn name(self) -> &'static str {
+        match self {
+            Kind::Start => "start",
+            Kind::Create => "create",
+            Kind::Delete => "delete",
+            Kind::Unmap => "unmap",
+            Kind::Flush => "flush",
+            Kind::Map => "map",
+            Kind::Grant => "grant",
+            Kind::Translate => "translate",
+            Kind::Load => "load",
+            Kind::Store => "store",
+            Kind::Sound => "sound",
+        }
+    }
+
+    /// The numbers that the call can give: 01, "Which concern which", and 0.
+    pub fn numbers(self) -> &'static [u32] {
+        match self {
+            Kind::Start | Kind::Sound => &[0, 1],
+            Kind::Create => &[0, 1, 3, 10],
+            Kind::Delete => &[0, 1, 3, 4, 9],
+            Kind::Unmap => &[0, 1, 3, 4, 5, 6],
+            Kind::Flush => &[0, 1, 3, 4, 5, 6, 9],
+            Kind::Map | Kind::Grant => &[0, 1, 3, 4, 5, 6, 9, 11, 12, 13, 14, 15],
+            Kind::Translate => &[0, 1, 3, 4, 5, 6, 11, 12],
+            Kind::Load | Kind::Store => &[0, 1, 2, 3, 4, 5, 11, 12],
+        }
+    }
+
+    /// True for the calls that are given memory.
+    pub fn takes_memory(self) -> bool {
+        matches!(self, Kind::Load | Kind::Store)
+    }
+}
+
+/// What a call answers: its number and the four out fields of the C interface.
+#[derive(Clone, Copy, Debug, Default, PartialEq, Eq)]
+pub struct Reply {
+    pub number: u32,
+    pub out: [u32; 4],
+    /// A byte outside what was lent to the call has changed. Never so for the model.
+    pub strayed: bool,
+}
+
+impl Reply {
+    /// Done, with these first two out fields.
+    pub fn done(first: u32, second: u32) -> Reply {
+        Reply { number: 0, out: [first, second, 0, 0], strayed: false }
+    }
+
+    /// Refused, or an answer that is a number only.
+    pub fn bare(number: u32) -> Reply {
+        Reply { number, ..Reply::default() }
+    }
+}
+
+impl From<Refusal> for Reply {
+    fn from(refusal: Refusal) -> Reply {
+        Reply::bare(refusal.number())
+    }
+}

@@ -1,0 +1,397 @@
+//! Damaged images: bytes that are no board's image, and boards that are not sound. The model says which of them are harmless.
+
+use crate::board::{spot, Board, Link, Place, Slot, Spot};
+use crate::calls::ALL_RIGHTS;
+use crate::image;
+use crate::random::Random;
+
+/// A way to damage an image.
+#[derive(Clone, Copy, Debug, PartialEq, Eq)]
+pub enum Damage {
+    /// One byte of the image: every byte and every telling value in turn (`Sweep`).
+    Field,
+    ManyFields,
+    AnyBytes,
+    SwappedRecords,
+    UnusedByte,
+    Length,
+    PoolPage,
+    PoolNotLive,
+    FrameOutsidePool,
+    LinkWithoutRights,
+    RightsWithoutLink,
+    RightsBeyondParent,
+    EmptyParent,
+    NotLive,
+    Ring,
+    SpaceTwice,
+    StaleRights,
+    StaleFrame,
+    CachedEmptyPage,
+    CachedTwice,
+    HalfEmptyPlace,
+    NextPlace,
+}
+
+impl Damage {
+    pub const ALL: [Damage; 22] = [
+        Damage::Field,
+        Damage::ManyFields,
+        Damage::AnyBytes,
+        Damage::SwappedRecords,
+        Damage::UnusedByte,
+        Damage::Length,
+        Damage::PoolPage,
+        Damage::PoolNotLive,
+        Damage::FrameOutsidePool,
+        Damage::LinkWithoutRights,
+        Damage::RightsWithoutLink,
+        Damage::RightsBeyondParent,
+        Damage::EmptyParent,
+        Damage::NotLive,
+        Damage::Ring,
+        Damage::SpaceTwice,
+        Damage::StaleRights,
+        Damage::StaleFrame,
+        Damage::CachedEmptyPage,
+        Damage::CachedTwice,
+        Damage::HalfEmptyPlace,
+        Damage::NextPlace,
+    ];
+}
+
+/// Goes through every byte of the image with each of a list of values, over and over.
+#[derive(Clone, Debug, Default)]
+pub struct Sweep {
+    turn: usize,
+}
+
+impl Sweep {
+    const VALUES: [u8; 12] = [0, 1, 2, 3, 7, 8, 16, 31, 32, 64, 128, 255];
+
+    /// How many times every byte has had every value, in hundredths.
+    pub fn hundredths(&self, image_length: usize) -> usize {
+        100 * self.turn / (Sweep::VALUES.len() * image_length)
+    }
+
+    fn change(&mut self, bytes: &mut [u8]) {
+        let at = self.turn / Sweep::VALUES.len() % bytes.len();
+        bytes[at] = Sweep::VALUES[self.turn % Sweep::VALUES.len()];
+        self.turn += 1;
+    }
+}
+
+/// The image of a sound board, damaged.
+pub fn damaged(random: &mut Random, board: &Board, damage: Damage, sweep: &mut Sweep) -> Vec<u8> {
+    match damage {
+        Damage::Field => damaged_bytes(board, |bytes| sweep.change(bytes)),
+        Damage::ManyFields => damaged_bytes(board, |bytes| many_fields(random, bytes)),
+        Damage::AnyBytes => (0..board.sizes.image()).map(|_| random.byte()).collect(),
+        Damage::SwappedRecords => damaged_bytes(board, |bytes| swap_records(random, board, bytes)),
+        Damage::UnusedByte => damaged_bytes(board, |bytes| unused_byte(random, board, bytes)),
+        Damage::Length => damaged_bytes(board, |bytes| length(random, bytes)),
+        Damage::PoolPage => damaged_board(board, |board| pool_page(random, board)),
+        Damage::PoolNotLive => damaged_board(board, |board| board.live[random.below(2)] = false),
+        Damage::FrameOutsidePool => damaged_board(board, |board| frame_outside_pool(random, board)),
+        Damage::LinkWithoutRights => damaged_board(board, |board| link_without_rights(random, board)),
+        Damage::RightsWithoutLink => damaged_board(board, |board| rights_without_link(random, board)),
+        Damage::RightsBeyondParent => damaged_board(board, |board| rights_beyond_parent(random, board)),
+        Damage::EmptyParent => damaged_board(board, |board| empty_parent(random, board)),
+        Damage::NotLive => damaged_board(board, |board| not_live(random, board)),
+        Damage::Ring => damaged_board(board, |board| ring(random, board)),
+        Damage::SpaceTwice => damaged_board(board, |board| space_twice(random, board)),
+        Damage::StaleRights => damaged_board(board, |board| stale_rights(random, board)),
+        Damage::StaleFrame => damaged_board(board, |board| stale_frame(random, board)),
+        Damage::CachedEmptyPage => damaged_board(board, |board| cached_empty_page(random, board)),
+        Damage::CachedTwice => damaged_board(board, |board| cached_twice(random, board)),
+        Damage::HalfEmptyPlace => damaged_board(board, |board| half_empty_place(random, board)),
+        Damage::NextPlace => damaged_board(board, |board| next_place(random, board)),
+    }
+}
+
+fn damaged_bytes(board: &Board, change: impl FnOnce(&mut Vec<u8>)) -> Vec<u8> {
+    let mut bytes = image::encode(board);
+    change(&mut bytes);
+    bytes
+}
+
+fn damaged_board(board: &Board, change: impl FnOnce(&mut Board)) -> Vec<u8> {
+    let mut board = board.clone();
+    change(&mut board);
+    image::encode(&board)
+}
+
+// ---- bytes -------------------------------------------------------------------------------------------------------------------
+
+fn many_fields(random: &mut Random, bytes: &mut [u8]) {
+    for _ in 0..random.between(2, 20) {
+        let at = random.below(bytes.len());
+        bytes[at] = if random.chance(50) { random.byte() } else { random.byte() % 8 };
+    }
+}
+
+/// Two slots or two cache places change places.
+fn swap_records(random: &mut Random, board: &Board, bytes: &mut [u8]) {
+    let wide: Vec<_> = image::records(board.sizes).into_iter().filter(|record| record.len() == 4).collect();
+    let first = wide[random.below(wide.len())].start;
+    let second = wide[random.below(wide.len())].start;
+    for offset in 0..4 {
+        bytes.swap(first + offset, second + offset);
+    }
+}
+
+/// A number of an empty page, the second number of a frame, a kind above 2 or a live byte above 1.
+fn unused_byte(random: &mut Random, board: &Board, bytes: &mut [u8]) {
+    let slots = board.slots.len();
+    let value = random.between(3, 255) as u8;
+    match random.below(4) {
+        0 => bytes[4 * slots + random.below(board.sizes.spaces)] = value,
+        1 => bytes[4 * random.below(slots)] = value,
+        2 => bytes[4 * random.below(board.sizes.pages) + 2] = value,
+        _ => {
+            let empty: Vec<usize> = (0..slots).filter(|&slot| !board.slots[slot].held()).collect();
+            let slot = random.pick_any(&empty).unwrap_or(0);
+            bytes[4 * slot + random.between(1, 2)] = value;
+        }
+    }
+}
+
+fn length(random: &mut Random, bytes: &mut Vec<u8>) {
+    let right = bytes.len();
+    let any = random.below(3 * right);
+    let length = random.pick(&[0, 1, 4, right - 1, right + 1, right - 4, right + 4, right & !1023, 2 * right, any]);
+    let fill = random.pick(&[0, 1, 255]);
+    bytes.resize(length, fill);
+}
+
+// ---- slots -------------------------------------------------------------------------------------------------------------------
+
+/// A held page outside space 0; if there is none, one is made.
+fn lent_page(random: &mut Random, board: &mut Board) -> Spot {
+    let lent: Vec<Spot> = board.lent_pages().collect();
+    random.pick_any(&lent).unwrap_or_else(|| {
+        let page = spot(1, random.below(board.sizes.pages));
+        board.set_slot(page, Slot { link: Link::Page(spot(0, 0)), rights: ALL_RIGHTS });
+        page
+    })
+}
+
+/// A page of a live space other than 0, held or not.
+fn live_page(random: &mut Random, board: &Board) -> Spot {
+    let spaces: Vec<usize> = (1..board.sizes.spaces).filter(|&space| board.live[space]).collect();
+    spot(random.pick(&spaces), random.below(board.sizes.pages))
+}
+
+fn some_rights(random: &mut Random) -> u8 {
+    random.between(1, ALL_RIGHTS as usize) as u8
+}
+
+/// A page of space 0 that does not hold its frame with all rights.
+fn pool_page(random: &mut Random, board: &mut Board) {
+    let page = spot(0, random.below(board.sizes.pages));
+    let other = (page.page + random.between(1, board.sizes.pages - 1)) % board.sizes.pages;
+    let lent = lent_page(random, board);
+    let slot = match random.below(5) {
+        0 => Slot { link: Link::Frame(other), rights: ALL_RIGHTS },
+        1 => Slot { link: Link::Frame(page.page), rights: random.byte() & 6 },
+        2 => Slot { link: Link::Page(lent), rights: ALL_RIGHTS },
+        3 => Slot { link: Link::Page(spot(0, other)), rights: ALL_RIGHTS },
+        _ => Slot::EMPTY,
+    };
+    board.set_slot(page, slot);
+}
+
+fn frame_outside_pool(random: &mut Random, board: &mut Board) {
+    let page = live_page(random, board);
+    let frame = random.pick(&[page.page, 0, board.sizes.pages - 1, board.sizes.pages, 255]);
+    board.set_slot(page, Slot { link: Link::Frame(frame), rights: ALL_RIGHTS });
+}
+
+fn link_without_rights(random: &mut Random, board: &mut Board) {
+    let page = lent_page(random, board);
+    let slot = board.slot(page);
+    board.set_slot(page, Slot { rights: 0, ..slot });
+}
+
+fn rights_without_link(random: &mut Random, board: &mut Board) {
+    let empty: Vec<Spot> = board.spots().filter(|&page| !board.held(page)).collect();
+    let page = random.pick_any(&empty).unwrap_or(spot(1, 0));
+    let rights = some_rights(random);
+    board.set_slot(page, Slot { link: Link::Nothing, rights });
+}
+
+/// A page with a right that its parent has not: its own rights are raised, or its parent's lowered.
+fn rights_beyond_parent(random: &mut Random, board: &mut Board) {
+    let page = lent_page(random, board);
+    let slot = board.slot(page);
+    let parent = board.parent(page).expect("the board is sound");
+    let lacking = ALL_RIGHTS & !board.slot(parent).rights;
+    if lacking != 0 && random.chance(60) {
+        board.set_slot(page, Slot { rights: slot.rights | lacking, ..slot });
+    } else if parent.space != 0 && random.chance(70) {
+        let rights = board.slot(parent).rights & !slot.rights;
+        let link = board.slot(parent).link;
+        board.set_slot(parent, Slot { link, rights: rights.max(1) });
+    } else {
+        let rights = random.pick(&[8, 15, 16, 128, 255]) | slot.rights;
+        board.set_slot(page, Slot { rights, ..slot });
+    }
+}
+
+/// A page whose parent is empty.
+fn empty_parent(random: &mut Random, board: &mut Board) {
+    let page = lent_page(random, board);
+    let parent = board.parent(page).expect("the board is sound");
+    let empty: Vec<Spot> = board.spots().filter(|&page| !board.held(page)).collect();
+    match random.pick_any(&empty) {
+        Some(other) if parent.space == 0 || random.chance(50) => {
+            let rights = board.slot(page).rights;
+            board.set_slot(page, Slot { link: Link::Page(other), rights });
+        }
+        _ => board.set_slot(parent, Slot::EMPTY),
+    }
+}
+
+/// A space with held pages that is not live.
+fn not_live(random: &mut Random, board: &mut Board) {
+    let page = lent_page(random, board);
+    let other = board.parent(page).expect("the board is sound");
+    board.live[random.pick(&[page, other]).space] = false;
+}
+
+/// A ring of links, of one page or more, also longer than a sound line; all its pages with all rights.
+fn ring(random: &mut Random, board: &mut Board) {
+    let mut pages: Vec<Spot> = Vec::new();
+    for _ in 0..random.between(1, 2 * board.sizes.spaces) {
+        let page = live_page(random, board);
+        if !pages.contains(&page) {
+            pages.push(page);
+        }
+    }
+    for i in 0..pages.len() {
+        let link = Link::Page(pages[(i + 1) % pages.len()]);
+        board.set_slot(pages[i], Slot { link, rights: ALL_RIGHTS });
+    }
+}
+
+/// A page linked to one whose line meets its space already.
+fn space_twice(random: &mut Random, board: &mut Board) {
+    let parent = lent_page(random, board);
+    let line: Vec<Spot> = board.line(parent).filter(|page| page.space != 0).collect();
+    let page = spot(random.pick(&line).space, random.below(board.sizes.pages));
+    let rights = board.slot(parent).rights;
+    board.set_slot(page, Slot { link: Link::Page(parent), rights });
+}
+
+// ---- the cache ---------------------------------------------------------------------------------------------------------------
+
+/// The true entry of a page.
+fn entry(board: &Board, page: Spot) -> Place {
+    let frame = board.frame(page).expect("the page is held and the board sound");
+    Place { space: page.space, page: page.page, frame, rights: board.slot(page).rights }
+}
+
+/// Puts a changed entry of a held page into a random place, and no other of that page.
+fn cache_changed(random: &mut Random, board: &mut Board, change: impl FnOnce(&mut Random, &mut Place)) {
+    let page = if random.chance(30) { spot(0, random.below(board.sizes.pages)) } else { lent_page(random, board) };
+    let mut place = entry(board, page);
+    board.cache.drop_entry(page);
+    change(random, &mut place);
+    board.cache.places[random.below(board.sizes.places)] = place;
+}
+
+fn stale_rights(random: &mut Random, board: &mut Board) {
+    cache_changed(random, board, |random, place| {
+        let all = random.pick(&[ALL_RIGHTS, 15]);
+        place.rights = (place.rights ^ some_rights(random)) | if all == 15 { 8 } else { 0 };
+    });
+}
+
+fn stale_frame(random: &mut Random, board: &mut Board) {
+    let pages = board.sizes.pages;
+    cache_changed(random, board, |random, place| {
+        place.frame = random.pick(&[(place.frame + 1) % pages, place.frame + pages, 255, place.page, 0]);
+    });
+}
+
+fn cached_empty_page(random: &mut Random, board: &mut Board) {
+    let empty: Vec<Spot> = board.spots().filter(|&page| !board.held(page)).collect();
+    let page = random.pick_any(&empty).unwrap_or(spot(board.sizes.spaces, 0));
+    let place = Place { space: page.space, page: page.page, frame: page.page, rights: some_rights(random) };
+    board.cache.places[random.below(board.sizes.places)] = place;
+}
+
+fn cached_twice(random: &mut Random, board: &mut Board) {
+    let page = if random.chance(30) { spot(0, random.below(board.sizes.pages)) } else { lent_page(random, board) };
+    let first = random.below(board.sizes.places);
+    let second = (first + random.between(1, board.sizes.places - 1)) % board.sizes.places;
+    board.cache.places[first] = entry(board, page);
+    board.cache.places[second] = entry(board, page);
+}
+
+/// A place without rights that is not of the empty form.
+fn half_empty_place(random: &mut Random, board: &mut Board) {
+    let mut place = Place::default();
+    match random.below(4) {
+        0 => place.space = random.between(1, 255),
+        1 => place.page = random.between(1, 255),
+        2 => place.frame = random.between(1, 255),
+        _ => place = Place { rights: 0, ..entry(board, spot(0, random.between(1, board.sizes.pages - 1))) },
+    }
+    board.cache.places[random.below(board.sizes.places)] = place;
+}
+
+fn next_place(random: &mut Random, board: &mut Board) {
+    let places = board.sizes.places;
+    board.cache.next = random.pick(&[places, places + 1, 2 * places, 127, 128, 255]);
+}
+
+#[cfg(test)]
+mod tests {
+    use super::*;
+    use crate::sessions::random_board;
+    use crate::sizes::Sizes;
+
+    fn sound(bytes: &[u8]) -> bool {
+        image::decode(Sizes::ENTRY, bytes).is_some_and(|board| board.sound())
+    }
+
+    #[test]
+    fn every_damage_is_mostly_unsound() {
+        let mut sweep = Sweep::default();
+        for damage in Damage::ALL {
+            let mut random = Random::new(21);
+            let unsound = (0..300)
+                .filter(|_| {
+                    let board = random_board(&mut random, Sizes::ENTRY);
+                    !sound(&damaged(&mut random, &board, damage, &mut sweep))
+                })
+                .count();
+            assert!(unsound > 120, "{damage:?}: {unsound} of 300");
+        }
+    }
+
+    #[test]
+    fn damage_of_the_start_board_is_possible() {
+        let board = Board::start(Sizes::ENTRY);
+        let mut random = Random::new(22);
+        for damage in Damage::ALL.iter().cycle().take(2000) {
+            damaged(&mut random, &board, *damage, &mut Sweep::default());
+        }
+    }
+
+    #[test]
+    fn a_round_of_the_sweep_changes_every_byte() {
+        let board = Board::start(Sizes::ENTRY);
+        let before = image::encode(&board);
+        let mut changed = vec![false; before.len()];
+        let mut sweep = Sweep::default();
+        while sweep.hundredths(before.len()) < 100 {
+            let after = damaged(&mut Random::new(0), &board, Damage::Field, &mut sweep);
+            for at in (0..before.len()).filter(|&at| before[at] != after[at]) {
+                changed[at] = true;
+            }
+        }
+        assert!(changed.iter().all(|&byte| byte));
+    }
+}

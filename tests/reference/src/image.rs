@@ -1,0 +1,211 @@
+//! The byte image of a board, as lend.h lays it out.
+
+use crate::board::{spot, Board, Cache, Link, Place, Slot};
+use crate::calls::{Call, Refusal, Reply};
+use crate::sizes::Sizes;
+use std::ops::Range;
+
+/// The image of a board.
+pub fn encode(board: &Board) -> Vec<u8> {
+    let mut bytes = Vec::with_capacity(board.sizes.image());
+    for slot in &board.slots {
+        bytes.extend(encode_slot(*slot));
+    }
+    bytes.extend(board.live.iter().map(|&live| live as u8));
+    for place in &board.cache.places {
+        bytes.extend([place.space as u8, place.page as u8, place.frame as u8, place.rights]);
+    }
+    bytes.push(board.cache.next as u8);
+    bytes
+}
+
+fn encode_slot(slot: Slot) -> [u8; 4] {
+    match slot.link {
+        Link::Nothing => [0, 0, 0, slot.rights],
+        Link::Frame(frame) => [1, frame as u8, 0, slot.rights],
+        Link::Page(parent) => [2, parent.space as u8, parent.page as u8, slot.rights],
+    }
+}
+
+/// The board of an image, sound or not; nothing where the bytes are no board's image.
+pub fn decode(sizes: Sizes, bytes: &[u8]) -> Option<Board> {
+    if bytes.len() != sizes.image() {
+        return None;
+    }
+    let (slots, rest) = bytes.split_at(4 * sizes.spaces * sizes.pages);
+    let (live, rest) = rest.split_at(sizes.spaces);
+    let (places, next) = rest.split_at(4 * sizes.places);
+    Some(Board {
+        sizes,
+        slots: slots.chunks(4).map(decode_slot).collect::<Option<_>>()?,
+        live: live.iter().map(|&byte| decode_live(byte)).collect::<Option<_>>()?,
+        cache: Cache { places: places.chunks(4).map(decode_place).collect(), next: next[0] as usize },
+    })
+}
+
+fn decode_slot(bytes: &[u8]) -> Option<Slot> {
+    let (kind, first, second, rights) = (bytes[0], bytes[1], bytes[2], bytes[3]);
+    let link = match (kind, first, second) {
+        (0, 0, 0) => Link::Nothing,
+        (1, frame, 0) => Link::Frame(frame as usize),
+        (2, space, page) => Link::Page(spot(space as usize, page as usize)),
+        _ => return None,
+    };
+    Some(Slot { link, rights })
+}
+
+fn decode_live(byte: u8) -> Option<bool> {
+    (byte < 2).then_some(byte == 1)
+}
+
+fn decode_place(bytes: &[u8]) -> Place {
+    Place { space: bytes[0] as usize, page: bytes[1] as usize, frame: bytes[2] as usize, rights: bytes[3] }
+}
+
+/// A call over an image, as the C interface makes it.
+pub fn play(sizes: Sizes, image: &mut [u8], memory: &mut [u8], call: &Call) -> Reply {
+    play_with(sizes, image, memory, call, |board, memory, call| board.play(memory, call))
+}
+
+/// As `play`, with what the board does given. It is not asked for an image that is no board's.
+pub fn play_with(
+    sizes: Sizes,
+    image: &mut [u8],
+    memory: &mut [u8],
+    call: &Call,
+    play: impl FnOnce(&mut Board, &mut [u8], &Call) -> Reply,
+) -> Reply {
+    let right_length = image.len() == sizes.image();
+    match (call, decode(sizes, image)) {
+        (Call::Start, _) if right_length => {
+            image.copy_from_slice(&encode(&Board::start(sizes)));
+            Reply::done(0, 0)
+        }
+        (Call::Sound, None) => Reply::bare(0),
+        (_, None) => Refusal::Unsound.into(),
+        (_, Some(mut board)) => {
+            let reply = play(&mut board, memory, call);
+            image.copy_from_slice(&encode(&board));
+            reply
+        }
+    }
+}
+
+/// The parts of an image that stand together: each slot, live space, cache place, and the next place.
+pub fn records(sizes: Sizes) -> Vec<Range<usize>> {
+    let slots = sizes.spaces * sizes.pages;
+    let live = 4 * slots;
+    let cache = live + sizes.spaces;
+    let next = cache + 4 * sizes.places;
+    (0..slots)
+        .map(|i| 4 * i..4 * i + 4)
+        .chain((live..cache).map(|at| at..at + 1))
+        .chain((0..sizes.places).map(|i| cache + 4 * i..cache + 4 * i + 4))
+        .chain(std::iter::once(next..next + 1))
+        .collect()
+}
+
+/// What a record of the image is called: `records` in the same order.
+pub fn record_name(sizes: Sizes, index: usize) -> String {
+    let slots = sizes.spaces * sizes.pages;
+    let places = slots + sizes.spaces;
+    if index < slots {
+        format!("slot ({},{})", index / sizes.pages, index % sizes.pages)
+    } else if index < places {
+        format!("live {}", index - slots)
+    } else if index < places + sizes.places {
+        format!("cache place {}", index - places)
+    } else {
+        "next place".to_string()
+    }
+}
+
+#[cfg(test)]
+mod tests {
+    use super::*;
+    use crate::board::tests::board_k;
+    use crate::random::Random;
+
+    const ENTRY: Sizes = Sizes::ENTRY;
+
+    #[test]
+    fn the_image_of_k() {
+        let mut board = board_k();
+        board.translate(2, 3 * 1024, 4).unwrap();
+        board.cache.next = 5;
+        let image = encode(&board);
+        assert_eq!(image.len(), 1065);
+        assert_eq!(image[4 * 31..4 * 34], [1, 31, 0, 7, 2, 0, 5, 7, 0, 0, 0, 0]);
+        assert_eq!(image[4 * (32 * 2 + 3)..][..4], [2, 1, 0, 6]);
+        assert_eq!(image[1024..1032], [1, 1, 1, 1, 1, 0, 0, 0]);
+        assert_eq!(image[1032..1040], [2, 3, 5, 6, 0, 0, 0, 0]);
+        assert_eq!(image[1064], 5);
+        assert_eq!(decode(ENTRY, &image), Some(board));
+    }
+
+    #[test]
+    fn bytes_that_are_no_board_s() {
+        let image = encode(&board_k());
+        let with = |at: usize, byte: u8| {
+            let mut changed = image.clone();
+            changed[at] = byte;
+            decode(ENTRY, &changed)
+        };
+        assert_eq!(with(0, 3), None, "kind");
+        assert_eq!(with(2, 1), None, "after the frame");
+        assert_eq!(with(4 * 40 + 1, 1), None, "of an empty page");
+        assert_eq!(with(4 * 40 + 2, 1), None, "of an empty page");
+        assert_eq!(with(1024, 2), None, "live");
+        assert!(with(4 * 40 + 3, 1).is_some_and(|board| !board.sound()), "rights without a link");
+        assert_eq!(decode(ENTRY, &image[1..]), None);
+        assert_eq!(decode(ENTRY, &[]), None);
+    }
+
+    #[test]
+    fn decoding_loses_nothing() {
+        let mut random = Random::new(5);
+        let mut decoded = 0;
+        for _ in 0..20_000 {
+            let mut image = encode(&board_k());
+            for _ in 0..3 {
+                let at = random.below(image.len());
+                image[at] = random.byte() % 8;
+            }
+            if let Some(board) = decode(ENTRY, &image) {
+                assert_eq!(encode(&board), image);
+                decoded += 1;
+            }
+        }
+        assert!(decoded > 500);
+    }
+
+    #[test]
+    fn calls_over_what_is_no_image() {
+        let mut image = vec![9; 1065];
+        let kept = image.clone();
+        assert_eq!(play(ENTRY, &mut image, &mut [], &Call::Create { space: 2 }), Reply::bare(1));
+        assert_eq!(play(ENTRY, &mut image, &mut [], &Call::Sound), Reply::bare(0));
+        assert_eq!(image, kept);
+        assert_eq!(play(ENTRY, &mut image[1..], &mut [], &Call::Start), Reply::bare(1));
+        assert_eq!(image, kept);
+        assert_eq!(play(ENTRY, &mut image, &mut [], &Call::Start), Reply::bare(0));
+        assert_eq!(image, encode(&Board::start(ENTRY)));
+        assert_eq!(play(ENTRY, &mut image, &mut [], &Call::Sound), Reply::bare(1));
+        assert_eq!(play(ENTRY, &mut image[1..], &mut [], &Call::Sound), Reply::bare(0));
+    }
+
+    #[test]
+    fn records_cover_the_image() {
+        for sizes in [Sizes::ENTRY, Sizes::PREMIUM] {
+            let records = records(sizes);
+            let mut end = 0;
+            for record in &records {
+                assert_eq!(record.start, end);
+                end = record.end;
+            }
+            assert_eq!(end, sizes.image());
+            assert_eq!(record_name(sizes, records.len() - 1), "next place");
+            assert_eq!(record_name(sizes, sizes.pages), "slot (1,0)");
+        }
+    }
+}

@@ -1,0 +1,25 @@
+//! An independent model of the page-lending board, written from the documents alone, and the random sessions that hold the
+//! proved implementation against it.
+//!
+//! * the model: `sizes`, `calls`, `board`, `range`, `script`, `image`
+//! * what is tried: `random`, `sessions` (calls and scripts), `lines` (malformed lines), `damage` (damaged images)
+//! * the comparison: `shrink`, `tally`, `drive_script`, `drive_library`, and `served` (the C functions, through a driver process)
+//! * `wrong` (tests only): deliberately wrong models, which the comparison has to tell apart
+
+pub mod board;
+pub mod calls;
+pub mod damage;
+pub mod drive_library;
+pub mod drive_script;
+pub mod image;
+pub mod lines;
+pub mod random;
+pub mod range;
+pub mod script;
+pub mod served;
+pub mod sessions;
+pub mod shrink;
+pub mod sizes;
+pub mod tally;
+#[cfg(test)]
+mod wrong;

@@ -1,0 +1,727 @@
+//! Random boards, random calls and random scripts, made to reach what is rare: deep lines, full boards, a cache that wraps
+//! around, spaces deleted and created again, and every refusal.
+
+use crate::board::{spot, Board, Link, Place, Slot, Spot};
+use crate::calls::{Call, Kind, Lending, Withdrawal, ALL_RIGHTS};
+use crate::lines::{comment, spoil, Flaw};
+use crate::random::Random;
+use crate::script::{parse, write_line, INPUT_LIMIT};
+use crate::sizes::{Sizes, PAGE_BYTES};
+
+// ---- random boards -----------------------------------------------------------------------------------------------------------
+
+/// A sound board, also of the kinds that no list of calls from the start board leads to (two pages of a space with one frame).
+pub fn random_board(random: &mut Random, sizes: Sizes) -> Board {
+    let mut board = Board::start(sizes);
+    let live_share = random.pick(&[50, 90, 100]);
+    for space in 2..sizes.spaces {
+        board.live[space] = random.chance(live_share);
+    }
+    fill_pages(random, &mut board);
+    fill_cache(random, &mut board);
+    board
+}
+
+/// Links a random share of the pages, each to a held page whose line does not meet its space.
+fn fill_pages(random: &mut Random, board: &mut Board) {
+    let share = random.pick(&[10, 50, 90, 100]);
+    let chain = random.chance(50);
+    let mut pages: Vec<Spot> = board.spots().filter(|page| page.space != 0 && board.live[page.space]).collect();
+    random.shuffle(&mut pages);
+    pages.truncate(pages.len() * share / 100);
+    for page in pages {
+        let givers: Vec<Spot> = (0..if chain { 12 } else { 1 }).map(|_| some_held(random, board)).collect();
+        let free = givers.into_iter().filter(|&giver| board.line(giver).all(|at| at.space != page.space));
+        if let Some(parent) = free.max_by_key(|&giver| board.line(giver).count()) {
+            let rights = some_of(random, board.slot(parent).rights);
+            board.set_slot(page, Slot { link: Link::Page(parent), rights });
+        }
+    }
+}
+
+fn fill_cache(random: &mut Random, board: &mut Board) {
+    let share = random.pick(&[0, 50, 100]);
+    board.cache.next = random.below(board.sizes.places);
+    for place in 0..board.sizes.places {
+        let page = some_held(random, board);
+        let cached = board.cache.places.iter().any(|other| other.names(page));
+        if random.chance(share) && !cached {
+            let frame = board.frame(page).expect("the board is sound");
+            let rights = board.slot(page).rights;
+            board.cache.places[place] = Place { space: page.space, page: page.page, frame, rights };
+        }
+    }
+}
+
+// ---- drawing from a board ----------------------------------------------------------------------------------------------------
+
+/// A held page: mostly one outside space 0, if there is one.
+fn some_held(random: &mut Random, board: &Board) -> Spot {
+    let lent = if random.chance(80) { some_lent(random, board) } else { None };
+    lent.unwrap_or_else(|| spot(0, random.below(board.sizes.pages)))
+}
+
+/// A held page outside space 0: a few random pages first, then the whole list.
+fn some_lent(random: &mut Random, board: &Board) -> Option<Spot> {
+    for _ in 0..8 {
+        let page = spot(random.between(1, board.sizes.spaces - 1), random.below(board.sizes.pages));
+        if board.held(page) {
+            return Some(page);
+        }
+    }
+    let lent: Vec<Spot> = board.lent_pages().collect();
+    random.pick_any(&lent)
+}
+
+/// Of so many random held pages the one with the longest line.
+fn deepest_of(random: &mut Random, board: &Board, count: usize) -> Spot {
+    let pages: Vec<Spot> = (0..count).map(|_| some_held(random, board)).collect();
+    pages.into_iter().max_by_key(|&page| board.line(page).count()).expect("one or more")
+}
+
+fn spaces_where(board: &Board, condition: impl Fn(usize) -> bool) -> Vec<usize> {
+    (0..board.sizes.spaces).filter(|&space| condition(space)).collect()
+}
+
+fn some_live(random: &mut Random, board: &Board) -> usize {
+    random.pick(&spaces_where(board, |space| board.live[space]))
+}
+
+fn some_dead(random: &mut Random, board: &Board) -> Option<usize> {
+    random.pick_any(&spaces_where(board, |space| !board.live[space]))
+}
+
+/// A live space that the giver's line does not meet, if there is one.
+fn some_taker_space(random: &mut Random, board: &Board, giver: Spot) -> usize {
+    let free = |space: usize| board.live[space] && board.line(giver).all(|page| page.space != space);
+    random.pick_any(&spaces_where(board, free)).unwrap_or_else(|| some_live(random, board))
+}
+
+/// A page of a space: the one with the number of the giver's frame (so that lines stay apart), an empty one, or any.
+fn some_taker_page(random: &mut Random, board: &Board, giver: Spot, space: usize) -> usize {
+    let empty: Vec<usize> = (0..board.sizes.pages).filter(|&page| !board.held(spot(space, page))).collect();
+    let any = random.below(board.sizes.pages);
+    match random.below(4) {
+        0 | 1 => board.frame(giver).unwrap_or(any),
+        2 => random.pick_any(&empty).unwrap_or(any),
+        _ => any,
+    }
+}
+
+/// Some of these rights, at least one: mostly all of them, so that long lines keep rights.
+fn some_of(random: &mut Random, rights: u8) -> u8 {
+    let part = random.byte() & rights;
+    if random.chance(60) || part == 0 {
+        rights
+    } else {
+        part
+    }
+}
+
+// ---- calls that are mostly accepted ------------------------------------------------------------------------------------------
+
+fn lending(giver: Spot, taker: Spot, rights: u8) -> Lending {
+    Lending {
+        from: giver.space as u32,
+        page: giver.page as u32,
+        to: taker.space as u32,
+        at: taker.page as u32,
+        rights: rights as u32,
+    }
+}
+
+fn offer(random: &mut Random, board: &Board, giver: Spot) -> Lending {
+    let space = some_taker_space(random, board, giver);
+    let page = some_taker_page(random, board, giver, space);
+    let rights = some_of(random, board.slot(giver).rights);
+    lending(giver, spot(space, page), rights)
+}
+
+/// Makes lines longer: maps from the deepest of a few pages, after making every space live.
+fn deepen(random: &mut Random, board: &Board) -> Call {
+    if let (Some(space), true) = (some_dead(random, board), random.chance(20)) {
+        return Call::Create { space: space as u32 };
+    }
+    let giver = deepest_of(random, board, 6);
+    Call::Map(offer(random, board, giver))
+}
+
+/// Fills empty pages, mostly from space 0 and with frames that the taker's space does not have yet.
+fn fill(random: &mut Random, board: &Board) -> Call {
+    let space = some_live(random, board);
+    let frames: Vec<usize> = board.pages_of(space).filter_map(|page| board.frame(page)).collect();
+    let missing: Vec<usize> = (0..board.sizes.pages).filter(|frame| !frames.contains(frame)).collect();
+    let empty: Vec<Spot> = board.pages_of(space).filter(|&page| !board.held(page)).collect();
+    match (random.pick_any(&missing), random.pick_any(&empty)) {
+        (Some(frame), Some(taker)) if random.chance(70) => {
+            Call::Map(lending(spot(0, frame), taker, some_of(random, ALL_RIGHTS)))
+        }
+        _ => {
+            let giver = some_held(random, board);
+            Call::Map(offer(random, board, giver))
+        }
+    }
+}
+
+/// Grants to any page, often to one that stands below the giver.
+fn grant(random: &mut Random, board: &Board) -> Call {
+    let giver = some_lent(random, board).unwrap_or(spot(0, 0));
+    let below: Vec<Spot> = board.pages_below(giver).collect();
+    match random.pick_any(&below) {
+        Some(taker) if random.chance(40) => Call::Grant(lending(giver, taker, some_of(random, board.slot(giver).rights))),
+        _ => Call::Grant(offer(random, board, giver)),
+    }
+}
+
+/// A page in the cache, if there is one.
+fn some_cached(random: &mut Random, board: &Board) -> Option<Spot> {
+    let cached: Vec<Place> = board.cache.places.iter().copied().filter(|place| place.filled()).collect();
+    random.pick_any(&cached).map(|place| spot(place.space, place.page))
+}
+
+/// Makes a link again that is there already, mostly of a page in the cache.
+fn again(random: &mut Random, board: &Board) -> Call {
+    let cached = some_cached(random, board).filter(|page| page.space != 0);
+    let taker = cached.or_else(|| some_lent(random, board)).unwrap_or(spot(1, 0));
+    let giver = board.parent(taker).unwrap_or(spot(0, 0));
+    let rights = if random.chance(70) { board.slot(taker).rights } else { some_of(random, board.slot(giver).rights) };
+    Call::Map(lending(giver, taker, rights))
+}
+
+/// Reads through the cache: pages that are in it, and others, so that it fills up and wraps around.
+fn read(random: &mut Random, board: &Board, kinds: &[Kind]) -> Call {
+    let page = match some_cached(random, board) {
+        Some(page) if random.chance(40) => page,
+        _ => deepest_of(random, board, 3),
+    };
+    let (space, address) = (page.space as u32, (PAGE_BYTES * page.page + random.below(PAGE_BYTES)) as u32);
+    let rights = some_of(random, board.slot(page).rights) as u32;
+    match random.pick(&[Kind::Translate, Kind::Load, Kind::Store]) {
+        Kind::Load if kinds.contains(&Kind::Load) => Call::Load { space, address },
+        Kind::Store if kinds.contains(&Kind::Store) => Call::Store { space, address, value: random.byte() },
+        _ => Call::Translate { space, address, rights },
+    }
+}
+
+/// Takes rights away, often along the line of a page in the cache, and often just those that the cached page has not.
+fn withdraw(random: &mut Random, board: &Board) -> Call {
+    let any = random.pick(&[1, 2, 4, 1, 2, 4, 3, 5, 6, 7]);
+    let (page, rights) = match some_cached(random, board) {
+        Some(cached) if random.chance(70) => {
+            let line: Vec<Spot> = board.line(cached).collect();
+            let above: Vec<Spot> = line[1..].iter().copied().filter(|page| page.space != 0).collect();
+            let named = random.pick_any(&above).filter(|_| random.chance(60)).unwrap_or(random.pick(&line));
+            let lacking = ALL_RIGHTS & !board.slot(cached).rights;
+            (named, if lacking != 0 && random.chance(40) { lacking } else { any })
+        }
+        _ => (some_held(random, board), any),
+    };
+    let asked = Withdrawal { space: page.space as u32, page: page.page as u32, rights: rights as u32 };
+    if page.space == 0 || random.chance(40) {
+        Call::Unmap(asked)
+    } else {
+        Call::Flush(asked)
+    }
+}
+
+/// Deletes spaces and creates them again.
+fn churn(random: &mut Random, board: &Board) -> Call {
+    match some_dead(random, board) {
+        Some(space) if random.chance(65) => Call::Create { space: space as u32 },
+        _ => Call::Delete { space: random.between(2, board.sizes.spaces - 1) as u32 },
+    }
+}
+
+// ---- calls that are often refused --------------------------------------------------------------------------------------------
+
+/// A number that is out of range below `limit`, or just not: also such as become small when they are narrowed.
+fn odd_number(random: &mut Random, limit: usize) -> u32 {
+    let limit = limit as u32;
+    let small = random.below(limit as usize) as u32;
+    random.pick(&[
+        limit,
+        limit + 1,
+        limit - 1,
+        limit + small,
+        255,
+        256,
+        256 + small,
+        65_535,
+        65_536 + small,
+        99_999,
+        100_000,
+        1 << 31,
+        (1 << 31) + small,
+        u32::MAX,
+        u32::MAX - small,
+        0u32.wrapping_sub(limit),
+    ])
+}
+
+/// The parameters of loose calls: each is odd in `slack` cases of a hundred.
+struct Loose<'a> {
+    random: &'a mut Random,
+    board: &'a Board,
+    slack: usize,
+}
+
+impl Loose<'_> {
+    fn odd(&mut self) -> bool {
+        self.random.chance(self.slack)
+    }
+
+    fn space(&mut self, good: usize) -> u32 {
+        if !self.odd() {
+            return good as u32;
+        }
+        match self.random.below(3) {
+            0 => self.random.below(self.board.sizes.spaces) as u32,
+            1 => some_dead(self.random, self.board).unwrap_or(good) as u32,
+            _ => odd_number(self.random, self.board.sizes.spaces),
+        }
+    }
+
+    fn page(&mut self, good: usize) -> u32 {
+        if !self.odd() {
+            return good as u32;
+        }
+        match self.random.below(2) {
+            0 => self.random.below(self.board.sizes.pages) as u32,
+            _ => odd_number(self.random, self.board.sizes.pages),
+        }
+    }
+
+    fn address(&mut self, good_page: usize) -> u32 {
+        if self.odd() && self.random.chance(50) {
+            odd_number(self.random, self.board.sizes.memory())
+        } else {
+            let page = if self.odd() { self.random.below(self.board.sizes.pages) } else { good_page };
+            (PAGE_BYTES * page + self.random.below(PAGE_BYTES)) as u32
+        }
+    }
+
+    fn rights(&mut self) -> u32 {
+        if !self.odd() {
+            return self.random.between(1, ALL_RIGHTS as usize) as u32;
+        }
+        let small = self.random.below(8) as u32;
+        self.random.pick(&[0, 0, 8, 9, 15, 16 + small, 255, 256 + small, 65_536 + small, 99_999, u32::MAX])
+    }
+
+    fn withdrawal(&mut self) -> Withdrawal {
+        let named = some_held(self.random, self.board);
+        Withdrawal { space: self.space(named.space), page: self.page(named.page), rights: self.rights() }
+    }
+
+    fn lending(&mut self) -> Lending {
+        let giver = some_held(self.random, self.board);
+        let taker = match self.random.below(3) {
+            0 => spot(some_live(self.random, self.board), self.random.below(self.board.sizes.pages)),
+            _ => some_held(self.random, self.board),
+        };
+        Lending {
+            from: self.space(giver.space),
+            page: self.page(giver.page),
+            to: self.space(taker.space),
+            at: self.page(taker.page),
+            rights: if self.random.chance(60) {
+                some_of(self.random, self.board.slot(giver).rights) as u32
+            } else {
+                self.rights()
+            },
+        }
+    }
+
+    fn call(&mut self, kind: Kind) -> Call {
+        let some = some_held(self.random, self.board);
+        match kind {
+            Kind::Create => Call::Create { space: self.space(some.space) },
+            Kind::Delete => Call::Delete { space: self.space(some.space) },
+            Kind::Unmap => Call::Unmap(self.withdrawal()),
+            Kind::Flush => Call::Flush(self.withdrawal()),
+            Kind::Map => Call::Map(self.lending()),
+            Kind::Grant => Call::Grant(self.lending()),
+            Kind::Translate => {
+                Call::Translate { space: self.space(some.space), address: self.address(some.page), rights: self.rights() }
+            }
+            Kind::Load => Call::Load { space: self.space(some.space), address: self.address(some.page) },
+            Kind::Store => {
+                Call::Store { space: self.space(some.space), address: self.address(some.page), value: self.random.byte() }
+            }
+            Kind::Start => Call::Start,
+            Kind::Sound => Call::Sound,
+        }
+    }
+}
+
+/// A call whose parameters are odd in `slack` cases of a hundred each.
+pub fn loose(random: &mut Random, board: &Board, kind: Kind, slack: usize) -> Call {
+    Loose { random, board, slack }.call(kind)
+}
+
+/// A call that is to answer a number drawn from those that its kind can give: loose calls until one does so, or the last one.
+fn aim(random: &mut Random, board: &Board, kinds: &[Kind]) -> Call {
+    let kind = random.pick(kinds);
+    let wanted = random.pick(kind.numbers());
+    let slack = random.pick(&[5, 15, 40]);
+    let mut call = loose(random, board, kind, slack);
+    for _ in 0..20 {
+        // Of memory, load and store only ask the length before they ask the rest.
+        let reply = board.clone().play(&mut vec![0; board.sizes.memory()], &call);
+        if reply.number == wanted {
+            break;
+        }
+        call = loose(random, board, kind, slack);
+    }
+    call
+}
+
+// ---- the composer ------------------------------------------------------------------------------------------------------------
+
+/// What the calls are about for a while.
+#[derive(Clone, Copy, Debug, PartialEq, Eq)]
+enum Mood {
+    Deepen,
+    Fill,
+    Grant,
+    Again,
+    Read,
+    Withdraw,
+    Churn,
+    Aim,
+    Wild,
+    Mixed,
+}
+
+/// The moods that a mixed stretch draws each call from.
+const MIXED: [Mood; 12] = [
+    Mood::Deepen,
+    Mood::Deepen,
+    Mood::Fill,
+    Mood::Fill,
+    Mood::Grant,
+    Mood::Grant,
+    Mood::Again,
+    Mood::Read,
+    Mood::Read,
+    Mood::Read,
+    Mood::Withdraw,
+    Mood::Withdraw,
+];
+
+/// Composes calls of some kinds, in stretches of one mood.
+#[derive(Clone, Debug)]
+pub struct Composer {
+    kinds: &'static [Kind],
+    mood: Mood,
+    left: usize,
+}
+
+impl Composer {
+    pub fn new(kinds: &'static [Kind]) -> Composer {
+        Composer { kinds, mood: Mood::Mixed, left: 0 }
+    }
+
+    /// The next call, for this board.
+    pub fn compose(&mut self, random: &mut Random, board: &Board) -> Call {
+        if self.left == 0 {
+            self.change_mood(random);
+        }
+        self.left -= 1;
+        let mood = if self.mood == Mood::Mixed { random.pick(&MIXED) } else { self.mood };
+        match mood {
+            Mood::Deepen => deepen(random, board),
+            Mood::Grant => grant(random, board),
+            Mood::Again => again(random, board),
+            Mood::Read => read(random, board, self.kinds),
+            Mood::Withdraw => withdraw(random, board),
+            Mood::Churn => churn(random, board),
+            Mood::Aim => aim(random, board, self.kinds),
+            Mood::Wild => {
+                let lending = random.pick(&[Kind::Map, Kind::Grant]);
+                let kind = if random.chance(40) { lending } else { random.pick(self.kinds) };
+                let slack = random.pick(&[10, 30, 60]);
+                loose(random, board, kind, slack)
+            }
+            Mood::Fill | Mood::Mixed => fill(random, board),
+        }
+    }
+
+    /// Building moods last long, those that take away are short.
+    fn change_mood(&mut self, random: &mut Random) {
+        (self.mood, self.left) = match random.below(18) {
+            0..=2 => (Mood::Deepen, random.between(10, 80)),
+            3 | 4 => (Mood::Fill, random.between(5, 80)),
+            5 => (Mood::Grant, random.between(1, 15)),
+            6 | 7 => (Mood::Read, random.between(2, 40)),
+            8 => (Mood::Withdraw, random.between(1, 10)),
+            9 | 10 => (Mood::Churn, random.between(1, 6)),
+            11 | 12 => (Mood::Aim, random.between(5, 30)),
+            13 | 14 => (Mood::Wild, random.between(5, 40)),
+            _ => (Mood::Mixed, random.between(10, 80)),
+        };
+    }
+}
+
+// ---- scripts -----------------------------------------------------------------------------------------------------------------
+
+/// A script as it is composed: its bytes, the board that they lead to, and the flaws put into lines.
+pub struct Session {
+    pub bytes: Vec<u8>,
+    pub flaws: Vec<Flaw>,
+    board: Board,
+    composer: Composer,
+}
+
+impl Session {
+    fn new(sizes: Sizes) -> Session {
+        Session { bytes: Vec::new(), flaws: Vec::new(), board: Board::start(sizes), composer: Composer::new(&Kind::SCRIPT) }
+    }
+
+    fn push_line(&mut self, line: &[u8]) {
+        if let Some(call) = parse(line) {
+            self.board.play(&mut [], &call);
+        }
+        self.bytes.extend_from_slice(line);
+        self.bytes.push(b'\n');
+    }
+
+    fn push_call(&mut self, call: &Call) {
+        let line = write_line(call).expect("scripts have this call");
+        self.push_line(line.as_bytes());
+    }
+
+    fn compose_line(&mut self, random: &mut Random) -> String {
+        let call = self.composer.compose(random, &self.board);
+        write_line(&call).expect("the composer keeps to the calls of scripts")
+    }
+
+    /// A well-formed line, or a malformed one or a comment in so many cases of a hundred.
+    fn push_random_line(&mut self, random: &mut Random, noise: usize) {
+        let line = self.compose_line(random);
+        if !random.chance(noise) {
+            self.push_line(line.as_bytes());
+        } else if random.chance(15) {
+            self.push_line(&comment(random));
+        } else {
+            let flaw = random.pick(&Flaw::ALL);
+            self.flaws.push(flaw);
+            self.push_line(&spoil(random, &line, flaw));
+        }
+    }
+
+    fn walk(&mut self, random: &mut Random, lines: usize, noise: usize) {
+        for _ in 0..lines {
+            self.push_random_line(random, noise);
+        }
+    }
+
+    /// Makes every space live and lends every frame through all of them, in one line or from space 0 each time.
+    fn fill_board(&mut self, random: &mut Random) {
+        let sizes = self.board.sizes;
+        for space in 2..sizes.spaces {
+            self.push_call(&Call::Create { space: space as u32 });
+        }
+        let chain = random.chance(70);
+        let mut order: Vec<usize> = (1..sizes.spaces).collect();
+        let mut frames: Vec<usize> = (0..sizes.pages).collect();
+        random.shuffle(&mut frames);
+        let shift = random.below(sizes.pages);
+        for frame in frames {
+            random.shuffle(&mut order);
+            let mut giver = spot(0, frame);
+            for &space in &order {
+                let taker = spot(space, (frame + space * shift) % sizes.pages);
+                self.push_call(&Call::Map(lending(giver, taker, ALL_RIGHTS)));
+                giver = if chain { taker } else { giver };
+            }
+        }
+    }
+
+    /// A comment that ends (its newline included) where so many bytes are left before the limit.
+    fn pad_to_limit(&mut self, random: &mut Random, left: usize) {
+        let wanted = (INPUT_LIMIT - left).saturating_sub(self.bytes.len());
+        if wanted >= 2 {
+            let filler = random.pick(b"# x=\r\0\xff");
+            let body: Vec<u8> = vec![filler; wanted - 2];
+            self.push_line(&[b"#".as_slice(), &body].concat());
+        }
+    }
+
+    /// Lines up to the limit, one that the limit cuts (also where a well-formed line is left), and lines after it.
+    fn over_limit(&mut self, random: &mut Random) {
+        let before = random.below(200);
+        self.walk(random, before, 5);
+        let mut line = self.compose_line(random);
+        let left = if random.chance(40) {
+            line.push('0');
+            line.len() - 1
+        } else {
+            random.below(line.len() + 2)
+        };
+        if random.chance(70) {
+            self.pad_to_limit(random, left);
+        }
+        self.push_line(line.as_bytes());
+        while self.bytes.len() <= INPUT_LIMIT {
+            self.push_random_line(random, 5);
+        }
+        let after = random.below(60);
+        self.walk(random, after, 5);
+    }
+}
+
+/// A random script.
+pub fn random_session(random: &mut Random, sizes: Sizes) -> Session {
+    let mut session = Session::new(sizes);
+    match random.below(40) {
+        0..=2 => {
+            let lines = random.below(4);
+            session.walk(random, lines, 50);
+        }
+        3..=7 => {
+            let lines = random.between(10, 150);
+            session.walk(random, lines, 80);
+        }
+        8..=12 => {
+            session.fill_board(random);
+            let lines = random.below(250);
+            session.walk(random, lines, 5);
+        }
+        13 => session.over_limit(random),
+        _ => {
+            let lines = random.between(1, 500);
+            session.walk(random, lines, 8);
+        }
+    }
+    if random.chance(20) {
+        session.bytes.pop();
+    }
+    session
+}
+
+/// Scripts that are run before the random ones: the ends of input, the limit, and the longest answers (last, as they
+/// are slow to shorten).
+pub fn edge_sessions() -> Vec<Vec<u8>> {
+    let mut sessions: Vec<Vec<u8>> = [
+        "",
+        "\n",
+        "\n\n",
+        "#",
+        "#\n",
+        "# a",
+        "x",
+        "\r\n",
+        " ",
+        "op=create space=2",
+        "op=create space=2\n",
+        "op=create space=2\n\n",
+        "op=create space=2\r\nop=create space=2\n",
+        "#\nop=create space=2\n#",
+        "op=create space=0\nop=create space=7\nop=create space=8\nop=create space=99999\nop=create space=100000\n",
+    ]
+    .iter()
+    .map(|text| text.as_bytes().to_vec())
+    .collect();
+    sessions.extend(lines_around(80));
+    sessions.extend(cut_lines());
+    sessions.push(vec![b'\n'; INPUT_LIMIT - 1]);
+    sessions.push(vec![b'\n'; INPUT_LIMIT]);
+    sessions.push(vec![b'\n'; INPUT_LIMIT + 1]);
+    sessions.push(b"#\n".repeat(INPUT_LIMIT / 2 + 3));
+    sessions.push(vec![b'#'; 3 * INPUT_LIMIT]);
+    sessions.push(vec![b'x'; INPUT_LIMIT + 1]);
+    sessions.push(b"op=create space=2\n".repeat(INPUT_LIMIT / 18 + 9));
+    sessions
+}
+
+/// Lines with about so many bytes: comments, and spaces after a well-formed line.
+fn lines_around(length: usize) -> Vec<Vec<u8>> {
+    let call = "op=create space=2";
+    let padded = |length: usize| [call, &" ".repeat(length - call.len()), "\n", call, "\n"].concat().into_bytes();
+    let comment = |length: usize| ["#", &"c".repeat(length - 1), "\n", call, "\n"].concat().into_bytes();
+    (length - 1..=length + 1).flat_map(|length| [padded(length), comment(length)]).collect()
+}
+
+/// Every way in which the limit can cut a line of two numbers.
+fn cut_lines() -> Vec<Vec<u8>> {
+    let line = "op=translate space=0 address=12345 rights=77\nop=create space=2\n";
+    let comment = |length: usize| ["#".repeat(length - 1), "\n".to_string()].concat();
+    (1..=line.len() + 1).map(|left| [comment(INPUT_LIMIT - left), line.to_string()].concat().into_bytes()).collect()
+}
+
+#[cfg(test)]
+mod tests {
+    use super::*;
+    use crate::script;
+
+    #[test]
+    fn random_boards_are_sound_and_of_every_depth() {
+        let mut random = Random::new(1);
+        let (mut deepest, mut fullest, mut unreachable) = (0, 0, 0);
+        for _ in 0..300 {
+            let board = random_board(&mut random, Sizes::ENTRY);
+            assert!(board.sound());
+            deepest = deepest.max(board.spots().map(|page| board.line(page).count()).max().unwrap());
+            fullest = fullest.max(board.lent_pages().count());
+            let frames = |space| board.pages_of(space).filter_map(|page| board.frame(page)).collect::<Vec<_>>();
+            let twice = |list: Vec<usize>| (1..list.len()).any(|i| list[..i].contains(&list[i]));
+            unreachable += (1..8).any(|space| twice(frames(space))) as usize;
+        }
+        assert_eq!(deepest, 8);
+        assert!(fullest > 200, "{fullest}");
+        assert!(unreachable > 100, "{unreachable}");
+    }
+
+    #[test]
+    fn composed_calls_reach_deep_lines_full_boards_and_replaced_places() {
+        let mut random = Random::new(2);
+        let mut board = Board::start(Sizes::ENTRY);
+        let mut composer = Composer::new(&Kind::BOARD);
+        let mut memory = vec![0; 32768];
+        let (mut deepest, mut fullest, mut wraps) = (0, 0, 0);
+        for _ in 0..20_000 {
+            let call = composer.compose(&mut random, &board);
+            let next = board.cache.next;
+            board.play(&mut memory, &call);
+            assert!(board.sound(), "{call:?}");
+            wraps += (next == 7 && board.cache.next == 0) as usize;
+            deepest = deepest.max(board.spots().map(|page| board.line(page).count()).max().unwrap());
+            fullest = fullest.max(board.lent_pages().count());
+        }
+        assert_eq!(deepest, 8);
+        assert!(fullest > 150, "{fullest}");
+        assert!(wraps > 10, "{wraps}");
+    }
+
+    #[test]
+    fn a_filled_board_is_full() {
+        for seed in 0..20 {
+            let mut session = Session::new(Sizes::ENTRY);
+            session.fill_board(&mut Random::new(seed));
+            assert_eq!(session.board.lent_pages().count(), 7 * 32);
+            assert!(session.board.sound());
+        }
+    }
+
+    #[test]
+    fn sessions_over_the_limit_are_cut_where_a_call_is_left() {
+        let mut accepted_cut = 0;
+        for seed in 0..100 {
+            let mut session = Session::new(Sizes::ENTRY);
+            session.over_limit(&mut Random::new(seed));
+            assert!(session.bytes.len() > INPUT_LIMIT);
+            let last = *script::lines(&session.bytes).last().unwrap();
+            let whole = session.bytes[INPUT_LIMIT] == b'\n';
+            accepted_cut += (!whole && parse(last).is_some()) as usize;
+        }
+        assert!(accepted_cut > 10, "{accepted_cut}");
+    }
+
+    #[test]
+    fn the_same_seed_gives_the_same_session() {
+        let make = |part| random_session(&mut Random::of_part(9, part), Sizes::ENTRY).bytes;
+        assert_eq!(make(3), make(3));
+        assert_ne!(make(3), make(4));
+    }
+}
