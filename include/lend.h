@@ -68,9 +68,10 @@ enum lend_right { LEND_EXECUTE = 1, LEND_WRITE = 2, LEND_READ = 4, LEND_ALL = 7 
 #define LEND_ENTRY_NEXT (LEND_ENTRY_CACHE + 4 * LEND_ENTRY_PLACES)
 #define LEND_ENTRY_IMAGE (LEND_ENTRY_NEXT + 1) /* 1,065 bytes */
 
-/* Each call answers one of the numbers. An image length other than LEND_ENTRY_IMAGE is answered with LEND_UNSOUND. */
+/* Each call but sound answers one of the numbers. An image length other than LEND_ENTRY_IMAGE is answered with LEND_UNSOUND, and
+ * by sound with 0. */
 
-/* Writes the start board over any bytes. */
+/* Writes the start board over any bytes of the right length. Every out field is 0. */
 uint32_t lend_entry_start(uint8_t *image, size_t image_length, uint32_t out[4]);
 
 /* 1 where the image is a sound board's, else 0. */
@@ -94,7 +95,7 @@ uint32_t lend_entry_translate(uint8_t *image, size_t image_length, uint32_t spac
 uint32_t lend_entry_load(uint8_t *image, size_t image_length, uint8_t *memory, size_t memory_length, uint32_t space,
                          uint32_t address, uint32_t out[4]);
 
-/* Changes one byte of memory. Asks for the right to write. */
+/* Changes one byte of memory. Asks for the right to write. Every out field is 0. */
 uint32_t lend_entry_store(uint8_t *image, size_t image_length, uint8_t *memory, size_t memory_length, uint32_t space,
                           uint32_t address, uint8_t value, uint32_t out[4]);
 
