@@ -6,6 +6,16 @@ ghost use Rattle.script.specs.Script.{saidLine, slotLine};
 use lend::Link;
 use lend::Slot;
 
+// Only so many bytes of an input are read, and are the whole input.
+pub const INPUT_LIMIT: usize = 65536;
+
+// The most bytes that are printed for a byte of the input, for a page outside space 0, and by the last line (specs/Bound.antt).
+pub const FOR_A_BYTE: usize = 21;
+
+pub const FOR_A_PAGE: usize = 83;
+
+pub const FOR_THE_END: usize = 16;
+
 // What a line says: a comment nothing, a malformed line its number 16, translate where it came to, any other call what it emptied.
 pub enum Said {
     Silent,

@@ -1,0 +1,28 @@
+-- `answer` meets its contract: a run tells a length within the buffer, and its first bytes are the output.
+use mathlib.Core.Path.{sym}
+use Prim.Native.Nat.{ℕ}
+use lib.Seq.{length-take-le}
+use Rattle.script.proofs.Runs.{ran-fits, ran-output}
+use borrow.Author.Needs.{needs}
+use Rattle.board_script.proofs.answer.Statement.{statement}
+use Rattle.board_script.proofs.answer.Tie as tie
+use Rattle.board_script.proofs.answer.Reads as reads
+use Rattle.board_script.proofs.answer.Lts as lts
+use Rattle.entry_script.proofs.run.run.Reads as run-reads
+
+-- src/main.rt:14:5
+run-requires : tie.Need-run-requires
+run-requires c κs = search needs
+
+-- src/main.rt:11:1
+same-length : tie.Need-same-length
+same-length c = search needs
+
+-- src/main.rt:11:1
+returns : tie.Need-returns
+returns c =
+    let fits = ran-fits (c .before .before .run .ensures) .0 in
+    ((fits, sym (length-take-le {A = ℕ} _ _ fits)), ran-output (c .before .before .run .ensures) (search needs))
+
+pub answer-spec : {M : Type 1} → statement M
+answer-spec = tie.close (tie.spec run-requires same-length returns)
