@@ -32,6 +32,7 @@ FIELDS = {
 RECORDS = {
     'Tells': 'as-test: the result equals soundTest',
     'Wrote': 'the next position, and every byte of the lent buffer',
+    'Ran': 'the length told, and every byte of the lent buffer',
 }
 
 errors = []
