@@ -1,24 +1,19 @@
 -- `answer` meets its contract: a run tells a length within the buffer, and its first bytes are the output.
+use Rattle.board_script.proofs as own
 use mathlib.Core.Path.{sym}
 use Prim.Native.Nat.{ℕ}
 use lib.Seq.{length-take-le}
 use Rattle.script.proofs.Runs.{ran-fits, ran-output}
 use borrow.Author.Needs.{needs}
-use Rattle.board_script.proofs.answer.Statement.{statement}
-use Rattle.board_script.proofs.answer.Tie as tie
-use Rattle.board_script.proofs.answer.Reads as reads
-use Rattle.board_script.proofs.answer.Lts as lts
-use Rattle.entry_script.proofs.run.run.Reads as run-reads
+use own.answer.Statement.{statement}
+use own.answer.Tie as tie
 
--- src/main.rt:14:5
 run-requires : tie.Need-run-requires
 run-requires c κs = search needs
 
--- src/main.rt:11:1
 same-length : tie.Need-same-length
 same-length c = search needs
 
--- src/main.rt:11:1
 returns : tie.Need-returns
 returns c =
     let fits = ran-fits (c .before .before .run .ensures) .0 in
