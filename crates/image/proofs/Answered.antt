@@ -14,7 +14,8 @@ use Rattle.lend.specs.SoundTest.{soundTest}
 use Rattle.lend.specs.Start.{startBoard}
 use Rattle.lend.specs.Calls.{Call, Create, Delete, Unmap, Flush, Map, Grant, Translate, Load, Store, Outcome, plainReply, report, step, number}
 use Rattle.image.specs.Image.{imageOf, imageBytes, isImage, boardFrom, written}
-use Rattle.image.specs.Answered.{given, fourOf, outOf, Left, left, leftBy, answerTo, startAnswer, finishing, soundNumber}
+use Rattle.lend.specs.Ranges.{RangeCall, RangeOutcome, rangeNumber, rangeStep}
+use Rattle.image.specs.Answered.{given, fourOf, outOf, Left, left, leftBy, answerTo, startAnswer, finishing, soundNumber, threeOf, rangeLeftBy, rangeAnswerTo, rangeFinishing}
 use Rattle.image.proofs.Image.{sound-image, is-long, not-image}
 
 -- a call that is done shows that the board is sound
@@ -120,3 +121,44 @@ module _ (z : Sizes) (call : Call) (image memory : List ℕ) where
   pub not-image-refused : isImage z image ≡ false → answerTo z call image memory ≡ left 1 image memory (fourOf 0 0)
   unfolding number
   not-image-refused e = refused-by 1 (rw (not-image z image e)) (λ q. omega arith)
+
+-- ── calls over ranges ────────────────────────────────────────────────────
+-- a number other than 1 shows that the board is sound
+range-sound : (z : Sizes) (st : State) (c : RangeCall) → (rangeStep z st c .number ≡ 1 → ⊥) → T (soundTest z (st .board))
+unfolding rangeStep rangeNumber
+range-sound z st c h = go (soundTest z (st .board)) refl
+  where
+    go : (b : Bool) → soundTest z (st .board) ≡ b → T (soundTest z (st .board))
+    go true q = rw q tt
+    go false q = absurd (h (rw q))
+
+module _ (z : Sizes) (call : RangeCall) (image : List ℕ) (o : RangeOutcome) (is : o ≡ rangeStep z (given z image []) call) where
+  range-writes : (o .number ≡ 1 → ⊥) → written z image (o .state .board) ≡ imageOf (o .state .board)
+  unfolding written
+  range-writes h = rw (eq-eqb (length image) (imageBytes z) (is-long z image (sound-image z image (range-sound z (given z image []) call (λ e. h (ap (λ (x : RangeOutcome). x .number) is ∙ e))))))
+
+  range-answered : (n : ℕ) (image′ out′ : List ℕ) → left n image′ [] out′ ≡ rangeFinishing z (o .state .board) (o .number) (o .done) (o .offset) (o .emptied) image
+      → left n image′ [] out′ ≡ rangeAnswerTo z call image
+  unfolding rangeAnswerTo rangeFinishing
+  range-answered n image′ out′ f =
+      f ∙ (ap (λ (l : List ℕ). left (o .number) l [] (threeOf (o .done) (o .offset) (o .emptied))) (go (ℕ-discrete (o .number) 1)) ∙ ap (rangeLeftBy image) is)
+    where
+      go : Dec (o .number ≡ 1) → cond (eqb (o .number) 1) image (written z image (o .state .board)) ≡ cond (eqb (o .number) 1) image (imageOf (o .state .board))
+      go (yes e) = rw (eq-eqb (o .number) 1 e)
+      go (no h) = rw (ne-eqb (o .number) 1 h) (range-writes h)
+
+-- the same, where the board was read from the image
+pub range-answered-on : (z : Sizes) (call : RangeCall) (image : List ℕ) (b : Tables) (o : RangeOutcome) → b ≡ boardFrom z image → o ≡ rangeStep z (record { board = b; memory = [] }) call
+    → (n : ℕ) (image′ out′ : List ℕ) → left n image′ [] out′ ≡ rangeFinishing z (o .state .board) (o .number) (o .done) (o .offset) (o .emptied) image
+    → left n image′ [] out′ ≡ rangeAnswerTo z call image
+range-answered-on z call image b o e is = range-answered z call image o (is ∙ ap (λ (t : Tables). rangeStep z (record { board = t; memory = [] }) call) e)
+
+-- the last part of such a call: no board's image, and else
+module _ (z : Sizes) (t : Tables) (number first second third : ℕ) (image : List ℕ) where
+  pub range-finished-refused : number ≡ 1 → left 1 image [] (threeOf first second third) ≡ rangeFinishing z t number first second third image
+  unfolding rangeFinishing
+  range-finished-refused e = rw e
+
+  pub range-finished-done : (image′ : List ℕ) → (number ≡ 1 → ⊥) → image′ ≡ written z image t → left number image′ [] (threeOf first second third) ≡ rangeFinishing z t number first second third image
+  unfolding rangeFinishing
+  range-finished-done image′ h w = rw (ne-eqb number 1 h) (ap (λ (l : List ℕ). left number l [] (threeOf first second third)) w)

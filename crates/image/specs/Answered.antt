@@ -10,6 +10,7 @@ use Rattle.lend.specs.Tables.{Tables, State}
 use Rattle.lend.specs.SoundTest.{soundTest}
 use Rattle.lend.specs.Start.{startBoard}
 use Rattle.lend.specs.Calls.{Call, Create, Delete, Unmap, Flush, Map, Grant, Translate, Load, Store, Reply, Outcome, step}
+use Rattle.lend.specs.Ranges.{RangeCall, RangeOutcome, rangeStep}
 use Rattle.image.specs.Image.{imageOf, imageBytes, boardFrom, written}
 
 -- the board of the image, and the memory beside it
@@ -60,3 +61,20 @@ finishing z t n first second image = left n (cond (eqb n 0) (written z image t) 
 -- 1 where the image is a sound board's, else 0
 abbrev pub soundNumber : Sizes → List ℕ → ℕ
 soundNumber z image = cond (soundTest z (boardFrom z image)) 1 0
+
+-- ── calls over ranges ────────────────────────────────────────────────────
+-- the out fields: pages done, the offset of the first refused page, pages emptied
+abbrev pub threeOf : ℕ → ℕ → ℕ → List ℕ
+threeOf x y w = x ∷ y ∷ w ∷ 0 ∷ []
+
+-- a number other than 1 may be a page's, and what was done to the others stands; on 1 the bytes may be no image
+abbrev pub rangeLeftBy : List ℕ → RangeOutcome → Left
+rangeLeftBy image o =
+    left (o .number) (cond (eqb (o .number) 1) image (imageOf (o .state .board))) [] (threeOf (o .done) (o .offset) (o .emptied))
+
+unfoldable pub rangeAnswerTo : Sizes → RangeCall → List ℕ → Left
+rangeAnswerTo z call image = rangeLeftBy image (rangeStep z (given z image []) call)
+
+-- what the last part of such a call leaves
+unfoldable pub rangeFinishing : Sizes → Tables → ℕ → ℕ → ℕ → ℕ → List ℕ → Left
+rangeFinishing z t n first second third image = left n (cond (eqb n 1) image (written z image t)) [] (threeOf first second third)
