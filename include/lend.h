@@ -99,6 +99,25 @@ uint32_t lend_entry_load(uint8_t *image, size_t image_length, uint8_t *memory, s
 uint32_t lend_entry_store(uint8_t *image, size_t image_length, uint8_t *memory, size_t memory_length, uint32_t space,
                           uint32_t address, uint8_t value, uint32_t out[4]);
 
+/* Calls over ranges. A range is a base and a size: 0 and 0 is no page, 0 and 1 is every page of a space, and a size from 10 to 15 is
+ * a part of 2^(size - 10) pages from the base rounded down to a multiple of that. All else is invalid.
+ *
+ * The numbers LEND_UNSOUND, LEND_SPACE, LEND_NOT_LIVE, LEND_RIGHTS, LEND_RANGE and LEND_RANGES_DIFFER refuse the whole call: nothing
+ * has changed, and every out field is 0. Any other number is that of the first page that was refused (0: none was); such pages are
+ * passed over, and what was done to the others stands.
+ *
+ * out[0]: how many pages were done. out[1]: the offset of the first refused page, LEND_ENTRY_PAGES where there is none. out[2]: how
+ * many pages were held before the whole call and are empty after it.
+ */
+uint32_t lend_entry_unmap_range(uint8_t *image, size_t image_length, uint32_t space, uint32_t base, uint32_t size,
+                                uint32_t rights, uint32_t out[4]);
+uint32_t lend_entry_flush_range(uint8_t *image, size_t image_length, uint32_t space, uint32_t base, uint32_t size,
+                                uint32_t rights, uint32_t out[4]);
+uint32_t lend_entry_map_range(uint8_t *image, size_t image_length, uint32_t from, uint32_t base, uint32_t size, uint32_t to,
+                              uint32_t at_base, uint32_t at_size, uint32_t rights, uint32_t out[4]);
+uint32_t lend_entry_grant_range(uint8_t *image, size_t image_length, uint32_t from, uint32_t base, uint32_t size, uint32_t to,
+                                uint32_t at_base, uint32_t at_size, uint32_t rights, uint32_t out[4]);
+
 #ifdef __cplusplus
 }
 #endif

@@ -14,6 +14,7 @@ VIEWS = {
     '': 'the result itself',
     'tables': 'boardOf-tables (specs/Board.antt of the board)',
     'outcome': 'answerOf-outcome (specs/Answer.antt of the calls)',
+    'rangeOutcome': 'rangeAnswerOf-rangeOutcome (specs/RangeAnswer.antt of the calls)',
     'translated': 'translatedOf-translated (specs/Answers.antt)',
     'seen': 'seenOf-seen (specs/Answers.antt)',
 }

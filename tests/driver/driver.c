@@ -76,6 +76,10 @@ static uint32_t call(struct request *r, uint32_t *out) {
     case 't': return lend_entry_translate(b, length, n[0], n[1], n[2], out);
     case 'l': return lend_entry_load(b, length, m, bytes, n[0], n[1], out);
     case 'w': return lend_entry_store(b, length, m, bytes, n[0], n[1], r->value, out);
+    case 'U': return lend_entry_unmap_range(b, length, n[0], n[1], n[2], n[3], out);
+    case 'F': return lend_entry_flush_range(b, length, n[0], n[1], n[2], n[3], out);
+    case 'M': return lend_entry_map_range(b, length, n[0], n[1], n[2], n[3], n[4], n[5], n[6], out);
+    case 'G': return lend_entry_grant_range(b, length, n[0], n[1], n[2], n[3], n[4], n[5], n[6], out);
     default: exit(3);
     }
 }

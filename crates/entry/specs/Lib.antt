@@ -1,3 +1,4 @@
 pub mod Sizes
 pub mod Board
 pub mod Cache
+pub mod Range

@@ -1,6 +1,7 @@
 // The board of this model: its types, the walk along all lines, and the test of soundness.
 pub mod lines;
 pub mod lookup;
+pub mod range;
 pub mod rights;
 pub mod sets;
 pub mod sizes;

@@ -2,6 +2,8 @@
 use entry as model;
 use lend::pick;
 use model::Board;
+use model::range::Range;
+use model::range::is_valid;
 use model::sizes::PAGES;
 use model::sizes::SPACES;
 use model::sound::live_at;
@@ -9,28 +11,24 @@ use model::sound::sound;
 ghost use mathlib.Core.Path.{_≡_};
 ghost use Rattle.lend.specs.Tables.{alone};
 ghost use Rattle.lend.specs.Calls.{Create, Delete, number as numberOf};
-ghost use Rattle.lend_code.specs.Inner.{pageNumber};
+ghost use Rattle.lend_code.specs.Inner.{pageChecks};
+ghost use Rattle.lend_code.specs.Ranges.{oneNumber};
 ghost use Rattle.entry.specs.Sizes.{sizes};
 ghost use Rattle.entry.specs.Board.{tables};
+ghost use Rattle.entry.specs.Range.{rangeMeant};
 
-// Of a call that names a page and rights, with the rest of its numbers.
-pub fn page_number(b: Board, space: u32, page: u32, rights: u32, rest: u32) -> u32
-    ensures { λ r. ⌜ r ≡ pageNumber sizes (tables b) space page rights rest ⌝ }
+// Of a call that names a page and rights, on a sound board, with the rest of its numbers.
+pub fn page_number(live: [bool; SPACES], space: u32, page: u32, rights: u32, rest: u32) -> u32
+    ensures { λ r. ⌜ r ≡ pageChecks sizes live space page rights rest ⌝ }
 {
-    let live = b.live;
-    let is_sound = sound(b);
     let s = space as usize;
     let p = page as usize;
     let alive = live_at(live, s);
     let bad = (rights == 0) | (7 < rights);
     pick(
-        !is_sound,
-        1,
-        pick(
-            SPACES <= s,
-            3,
-            pick(!alive, 4, pick(PAGES <= p, 5, pick(bad, 6, rest))),
-        ),
+        SPACES <= s,
+        3,
+        pick(!alive, 4, pick(PAGES <= p, 5, pick(bad, 6, rest))),
     )
 }
 
@@ -55,5 +53,26 @@ pub fn delete_number(b: Board, space: u32) -> u32
         !is_sound,
         1,
         pick(SPACES <= s, 3, pick(!alive, 4, pick(s <= 1, 9, 0))),
+    )
+}
+
+// The first checks of a call over the range of one space.
+pub fn one_number(b: Board, space: u32, range: Range, rights: u32) -> u32
+    ensures { λ r. ⌜ r ≡ oneNumber sizes (tables b) space (rangeMeant range) rights ⌝ }
+{
+    let live = b.live;
+    let is_sound = sound(b);
+    let s = space as usize;
+    let alive = live_at(live, s);
+    let bad = (rights == 0) | (7 < rights);
+    let valid = is_valid(range);
+    pick(
+        !is_sound,
+        1,
+        pick(
+            SPACES <= s,
+            3,
+            pick(!alive, 4, pick(bad, 6, pick(!valid, 7, 0))),
+        ),
     )
 }

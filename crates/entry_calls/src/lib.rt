@@ -3,9 +3,12 @@ mod checks;
 pub mod create;
 pub mod delete;
 pub mod flush;
+pub mod flush_range;
+pub mod progress;
 pub mod reply;
 pub mod start;
 pub mod unmap;
+pub mod unmap_range;
 mod withdraw;
 
 use entry::Board;
@@ -14,5 +17,15 @@ use entry::Board;
 pub struct Answer {
     pub board: Board,
     pub number: u32,
+    pub emptied: u32,
+}
+
+// What a call over a range answers: the number of the first refused page, or 0; how many pages were done; the offset of the first
+// refused page, or PAGES; the count of pages it emptied, and the next board.
+pub struct RangeAnswer {
+    pub board: Board,
+    pub number: u32,
+    pub done: u32,
+    pub offset: u32,
     pub emptied: u32,
 }

@@ -8,17 +8,22 @@ use model::Board;
 use model::lines::line_has;
 use model::sets::only;
 use model::sizes::PAGES;
+use model::sound::sound;
 ghost use mathlib.Core.Path.{_≡_};
 ghost use Rattle.lend.specs.Tables.{alone};
+ghost use Rattle.lend.specs.Sound.{Sound};
 ghost use Rattle.lend.specs.Calls.{Unmap, step};
 ghost use Rattle.entry.specs.Sizes.{sizes};
 ghost use Rattle.entry.specs.Board.{tables};
 ghost use Rattle.entry_calls.specs.Answer.{outcome};
 
-pub fn unmap(b: Board, space: u32, page: u32, rights: u32) -> Answer
+// On a board that is known to be sound.
+pub(crate) fn unmap_page(b: Board, space: u32, page: u32, rights: u32) -> Answer
+    requires { ⌜ Sound sizes (tables b) ⌝ }
     ensures { λ r. ⌜ outcome r ≡ step sizes (alone (tables b)) (Unmap space page rights) ⌝ }
 {
-    let number = page_number(b, space, page, rights, 0);
+    let live = b.live;
+    let number = page_number(live, space, page, rights, 0);
     if number != 0 {
         return refused(b, number);
     }
@@ -27,4 +32,13 @@ pub fn unmap(b: Board, space: u32, page: u32, rights: u32) -> Answer
     let mut below = line_has(slots, only(y));
     below[y] = false;
     withdrawn(b, below, rights as u8)
+}
+
+pub fn unmap(b: Board, space: u32, page: u32, rights: u32) -> Answer
+    ensures { λ r. ⌜ outcome r ≡ step sizes (alone (tables b)) (Unmap space page rights) ⌝ }
+{
+    if !sound(b) {
+        return refused(b, 1);
+    }
+    unmap_page(b, space, page, rights)
 }

@@ -4,11 +4,17 @@ use mathlib.Core.Path.{_≡_, sym, ap, _∙_}
 use mathlib.Core.List.{List}
 use Rattle.lend.specs.Tables.{Tables}
 use Rattle.lend.specs.Calls.{Outcome}
+use Rattle.lend.specs.Ranges as rules
+use Rattle.lend.specs.Ranges.{RangeOutcome}
 use Rattle.lend_basics.proofs.Unique.{one-result}
+use Rattle.entry.specs.declared.range.Range.{Range}
 use Rattle.entry.specs.declared.Board.{Board}
 use Rattle.entry.specs.Board.{tables, boardOf, boardOf-tables}
+use Rattle.entry.specs.Range.{rangeMeant, rangeBack, rangeBack-meant}
 use Rattle.entry_calls.specs.declared.Answer.{Answer}
+use Rattle.entry_calls.specs.declared.RangeAnswer.{RangeAnswer}
 use Rattle.entry_calls.specs.Answer.{outcome, answerOf, answerOf-outcome}
+use Rattle.entry_calls.specs.RangeAnswer.{rangeOutcome, rangeAnswerOf, rangeAnswerOf-rangeOutcome}
 use Rattle.entry_access.specs.declared.Translated.{Translated}
 use Rattle.entry_access.specs.declared.Loaded.{Loaded}
 use Rattle.entry_access.specs.declared.Stored.{Stored}
@@ -21,6 +27,14 @@ one-board = one-result tables boardOf boardOf-tables
 -- a call whose contract is `outcome r ≡ ..`
 pub one-answer : {meaning : Outcome} {r s : Answer} → outcome r ≡ meaning → outcome s ≡ meaning → r ≡ s
 one-answer = one-result outcome answerOf answerOf-outcome
+
+-- a call over a range, whose contract is `rangeOutcome r ≡ ..`
+pub one-range-answer : {meaning : RangeOutcome} {r s : RangeAnswer} → rangeOutcome r ≡ meaning → rangeOutcome s ≡ meaning → r ≡ s
+one-range-answer = one-result rangeOutcome rangeAnswerOf rangeAnswerOf-rangeOutcome
+
+-- and the range that a base and a size name
+pub one-range : {meaning : rules.Range} {r s : Range} → rangeMeant r ≡ meaning → rangeMeant s ≡ meaning → r ≡ s
+one-range = one-result rangeMeant rangeBack rangeBack-meant
 
 -- a call whose contract is `translated r ≡ ..`
 pub one-translation : {meaning : Outcome} {r s : Translated} → translated r ≡ meaning → translated s ≡ meaning → r ≡ s

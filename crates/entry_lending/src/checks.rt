@@ -8,6 +8,9 @@ use model::lines::inside;
 use model::lines::key;
 use model::lines::line_has;
 use model::lines::meets;
+use model::range::Range;
+use model::range::is_valid;
+use model::range::page_count;
 use model::sets::only;
 use model::sizes::PAGES;
 use model::sizes::SLOTS;
@@ -16,13 +19,15 @@ use model::sound::live_at;
 use model::sound::sound;
 ghost use mathlib.Core.Path.{_≡_};
 ghost use Rattle.lend.specs.Lending.{grantSource};
-ghost use Rattle.lend_code.specs.Lending.{otherIn, namedNumber, linesNumber};
+ghost use Rattle.lend_code.specs.Lending.{otherIn, namedChecks, linesNumber};
+ghost use Rattle.lend_code.specs.Ranges.{pairNumber};
 ghost use Rattle.entry.specs.Sizes.{sizes};
 ghost use Rattle.entry.specs.Board.{tables};
+ghost use Rattle.entry.specs.Range.{rangeMeant};
 
-// 1 to 9: of the board, and of the spaces, pages and rights that are named; shut tells whether 9 applies.
+// 3 to 9: of the spaces, pages and rights that are named, on a sound board; shut tells whether 9 applies.
 pub fn named_number(
-    b: Board,
+    live: [bool; SPACES],
     from: u32,
     page: u32,
     to: u32,
@@ -30,10 +35,8 @@ pub fn named_number(
     rights: u32,
     shut: bool,
 ) -> u32
-    ensures { λ r. ⌜ r ≡ namedNumber sizes (tables b) from page to at rights shut ⌝ }
+    ensures { λ r. ⌜ r ≡ namedChecks sizes live from page to at rights shut ⌝ }
 {
-    let live = b.live;
-    let is_sound = sound(b);
     let giver = from as usize;
     let taker = to as usize;
     let no_space = (SPACES <= giver) | (SPACES <= taker);
@@ -41,14 +44,27 @@ pub fn named_number(
     let no_page = (PAGES <= page as usize) | (PAGES <= at as usize);
     let bad = (rights == 0) | (7 < rights);
     pick(
-        !is_sound,
-        1,
-        pick(
-            no_space,
-            3,
-            pick(dead, 4, pick(no_page, 5, pick(bad, 6, pick(shut, 9, 0)))),
-        ),
+        no_space,
+        3,
+        pick(dead, 4, pick(no_page, 5, pick(bad, 6, pick(shut, 9, 0)))),
     )
+}
+
+// The first checks of a call over two ranges.
+pub fn pair_number(b: Board, from: u32, given: Range, to: u32, taken: Range, rights: u32) -> u32
+    ensures { λ r. ⌜ r ≡ pairNumber sizes (tables b) from (rangeMeant given) to (rangeMeant taken) rights ⌝ }
+{
+    let live = b.live;
+    let is_sound = sound(b);
+    let giver = from as usize;
+    let taker = to as usize;
+    let no_space = (SPACES <= giver) | (SPACES <= taker);
+    let dead = !live_at(live, giver) | !live_at(live, taker);
+    let bad = (rights == 0) | (7 < rights);
+    let invalid = !is_valid(given) | !is_valid(taken);
+    let apart = !(page_count(given) == page_count(taken));
+    let ranges = pick(bad, 6, pick(invalid, 7, pick(apart, 8, 0)));
+    pick(!is_sound, 1, pick(no_space, 3, pick(dead, 4, ranges)))
 }
 
 // The source that 14 and 15 speak of in a grant: the giver's parent.

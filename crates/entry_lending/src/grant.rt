@@ -13,9 +13,11 @@ use model::Board;
 use model::lines::line_has;
 use model::sets::only;
 use model::sizes::PAGES;
+use model::sound::sound;
 ghost use mathlib.Core.Path.{_≡_};
 ghost use Rattle.lend.specs.Tables.{alone};
 ghost use Rattle.lend.specs.Lending.{giverLoses};
+ghost use Rattle.lend.specs.Sound.{Sound};
 ghost use Rattle.lend.specs.Calls.{Grant, step};
 ghost use Rattle.entry.specs.Sizes.{sizes};
 ghost use Rattle.entry.specs.Board.{tables};
@@ -28,11 +30,13 @@ fn giver_loses(rights: u8) -> u8
     rights
 }
 
-// Answers the number, the board after the grant, and the count of pages that it emptied.
-pub fn grant(b: Board, from: u32, page: u32, to: u32, at: u32, rights: u32) -> Answer
+// On a board that is known to be sound.
+pub(crate) fn grant_page(b: Board, from: u32, page: u32, to: u32, at: u32, rights: u32) -> Answer
+    requires { ⌜ Sound sizes (tables b) ⌝ }
     ensures { λ r. ⌜ outcome r ≡ step sizes (alone (tables b)) (Grant from page to at rights) ⌝ }
 {
-    let named = named_number(b, from, page, to, at, rights, (to == 0) | (from == 0));
+    let live = b.live;
+    let named = named_number(live, from, page, to, at, rights, (to == 0) | (from == 0));
     if named != 0 {
         return refused(b, named);
     }
@@ -58,4 +62,14 @@ pub fn grant(b: Board, from: u32, page: u32, to: u32, at: u32, rights: u32) -> A
     let under_giver = line_has(new, giver_alone);
     let left = cut(new, under_giver, giver_loses(asked));
     taken(b, left, to as u8, at as u8)
+}
+
+// Answers the number, the board after the grant, and the count of pages that it emptied.
+pub fn grant(b: Board, from: u32, page: u32, to: u32, at: u32, rights: u32) -> Answer
+    ensures { λ r. ⌜ outcome r ≡ step sizes (alone (tables b)) (Grant from page to at rights) ⌝ }
+{
+    if !sound(b) {
+        return refused(b, 1);
+    }
+    grant_page(b, from, page, to, at, rights)
 }

@@ -13,18 +13,22 @@ use model::Board;
 use model::lines::line_has;
 use model::sets::only;
 use model::sizes::PAGES;
+use model::sound::sound;
 ghost use mathlib.Core.Path.{_≡_};
 ghost use Rattle.lend.specs.Tables.{alone};
+ghost use Rattle.lend.specs.Sound.{Sound};
 ghost use Rattle.lend.specs.Calls.{Map, step};
 ghost use Rattle.entry.specs.Sizes.{sizes};
 ghost use Rattle.entry.specs.Board.{tables};
 ghost use Rattle.entry_calls.specs.Answer.{outcome};
 
-// Answers the number, the board after the map, and the count of pages that it emptied.
-pub fn map(b: Board, from: u32, page: u32, to: u32, at: u32, rights: u32) -> Answer
+// On a board that is known to be sound.
+pub(crate) fn map_page(b: Board, from: u32, page: u32, to: u32, at: u32, rights: u32) -> Answer
+    requires { ⌜ Sound sizes (tables b) ⌝ }
     ensures { λ r. ⌜ outcome r ≡ step sizes (alone (tables b)) (Map from page to at rights) ⌝ }
 {
-    let named = named_number(b, from, page, to, at, rights, to == 0);
+    let live = b.live;
+    let named = named_number(live, from, page, to, at, rights, to == 0);
     if named != 0 {
         return refused(b, named);
     }
@@ -44,4 +48,14 @@ pub fn map(b: Board, from: u32, page: u32, to: u32, at: u32, rights: u32) -> Ans
         rights: asked,
     };
     taken(b, new, to as u8, at as u8)
+}
+
+// Answers the number, the board after the map, and the count of pages that it emptied.
+pub fn map(b: Board, from: u32, page: u32, to: u32, at: u32, rights: u32) -> Answer
+    ensures { λ r. ⌜ outcome r ≡ step sizes (alone (tables b)) (Map from page to at rights) ⌝ }
+{
+    if !sound(b) {
+        return refused(b, 1);
+    }
+    map_page(b, from, page, to, at, rights)
 }

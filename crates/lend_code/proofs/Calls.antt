@@ -1,20 +1,24 @@
 -- A call of the code from its number to its outcome: refused, or accepted with all that the number 0 has shown.
 use mathlib.Core.Path.{_≡_, refl, sym, ap, _∙_}
-use mathlib.Core.Bool.{Bool, true, false, cond}
+use mathlib.Core.Bool.{Bool, true, false, not, cond}
 use mathlib.Core.List.{List}
 use Prim.Native.Nat.{ℕ, _≤_, _<_}
+use native.Mathlib.Omega.{arith}
 use lib.Dec.{eqb}
 use lib.ListN.{set}
+use borrow.Author.Tests.{not-true, not-false}
 use Rattle.lend.specs.Sizes.{Sizes, slotCount, key}
 use Rattle.lend.specs.Rights.{allRights}
 use Rattle.lend.specs.Tables.{Tables, State, alone}
 use Rattle.lend.specs.Sound.{Sound}
+use Rattle.lend.specs.SoundTest.{soundTest, Tells}
 use Rattle.lend.specs.Emptied.{emptied}
 use Rattle.lend.specs.Calls.{Call, Create, Delete, Unmap, Flush, Outcome, number, cases, step, accept, refuse, boardAfter, memoryAfter, report, withLive}
-use Rattle.lend_sound.proofs.SoundTest.{test-sound}
+use Rattle.lend_basics.proofs.Bools.{is-true, true-is}
+use Rattle.lend_sound.proofs.SoundTest.{test-sound, sound-test}
 use Rattle.lend_laws.proofs.Accepted.{accepted, refused, tested, PageFine, DeleteFine, CreateFine, create-fine, delete-fine, unmap-fine, flush-fine}
 use Rattle.lend_laws.proofs.Emptied.{emptied-none}
-use Rattle.lend_code.specs.Inner.{lineHas, onlyPage, spacePages, pageNumber, withdrawnOf}
+use Rattle.lend_code.specs.Inner.{lineHas, onlyPage, spacePages, pageChecks, pageNumber, withdrawnOf}
 use Rattle.lend_code.proofs.Fits.{key-in}
 use Rattle.lend_code.proofs.Withdrawals.{unmap-is, flush-is, delete-is}
 
@@ -31,13 +35,32 @@ module _ (z : Sizes) (b : Tables) (c : Call) (n : ℕ) (is : n ≡ number z (alo
   pub call-sound : n ≡ 0 → Sound z b
   call-sound e = test-sound z b (tested z (alone b) c (sym is ∙ e))
 
+-- a board that is not sound refuses it with 1
+pub call-unsound : (z : Sizes) (b : Tables) (c : Call) (r : Bool) → Tells z b r → not r ≡ true → refuse (alone b) 1 ≡ step z (alone b) c
+unfolding number
+call-unsound z b c r told e =
+    let q : soundTest z b ≡ false = sym (told .as-test) ∙ not-true r e in
+    call-refused z b c 1 (rw q) (λ h. omega arith)
+
+-- and one that is sound is called with no test of it
+pub sound-told : (z : Sizes) (b : Tables) (r : Bool) → Tells z b r → not r ≡ false → Sound z b
+sound-told z b r told e = told .if-true (true-is r (not-false r e))
+
+pub sound-true : (z : Sizes) (b : Tables) → Sound z b → soundTest z b ≡ true
+sound-true z b sound = is-true (soundTest z b) (sound-test z b sound)
+
 -- ── unmap and flush ──────────────────────────────────────────────────────
+-- on a sound board the checks are all of the number
+pub page-checked : (z : Sizes) (b : Tables) → Sound z b → (s p d rest : ℕ) → pageChecks z (b .live) s p d rest ≡ pageNumber z b s p d rest
+unfolding pageNumber
+page-checked z b sound s p d rest = rw (sound-true z b sound)
+
 pub unmap-number : (z : Sizes) (b : Tables) (s p d : ℕ) → pageNumber z b s p d 0 ≡ number z (alone b) (Unmap s p d)
-unfolding pageNumber number cases
+unfolding pageChecks pageNumber number cases
 unmap-number z b s p d = refl
 
 pub flush-number : (z : Sizes) (b : Tables) (s p d rest : ℕ) → rest ≡ cond (eqb s 0) 9 0 → pageNumber z b s p d rest ≡ number z (alone b) (Flush s p d)
-unfolding pageNumber number cases
+unfolding pageChecks pageNumber number cases
 flush-number z b s p d rest e = rw e
 
 module _ (z : Sizes) (b : Tables) (s p d n : ℕ) (is : n ≡ number z (alone b) (Unmap s p d)) (done : n ≡ 0) where

@@ -21,9 +21,9 @@ use Rattle.lend_laws.proofs.Spaces.{out-of-pool}
 use Rattle.lend_lending.proofs.Map.{Lendable, map-fine, length-mapped, mapped-sound}
 use Rattle.lend_lending.proofs.Grant.{GrantFine, grant-fine, lent-by, parent-lendable, giver-loses-small, length-granted, granted-is}
 use Rattle.lend_code.specs.Inner.{lineHas, onlyPage}
-use Rattle.lend_code.specs.Lending.{namedNumber, linesNumber, cutSlots, takenOf}
+use Rattle.lend_code.specs.Lending.{namedChecks, namedNumber, linesNumber, cutSlots, takenOf}
 use Rattle.lend_code.proofs.Fits.{key-in}
-use Rattle.lend_code.proofs.Calls.{call-refused, call-accepted}
+use Rattle.lend_code.proofs.Calls.{call-refused, call-accepted, sound-true}
 use Rattle.lend_code.proofs.Taken.{cut-flushed, taken-is}
 use Rattle.lend_code.proofs.LendingNumbers.{map-named, map-named-fine, map-lines, grant-named, grant-named-fine, grant-lines}
 
@@ -95,6 +95,12 @@ module _ (z : Sizes) (b : Tables) (sound : Sound z b) (s p u v r : ℕ) (m : Len
       (length-granted z (key z s p) (key z u v) r (b .slots) ∙ sound .shape .slots-long) after-grant
 
 -- ── the calls, piece by piece ────────────────────────────────────────────
+-- on a sound board the checks of what is named are all of its number
+pub named-checked : (z : Sizes) (b : Tables) → Sound z b → (s p u v r : ℕ) (shut : Bool)
+    → namedChecks z (b .live) s p u v r shut ≡ namedNumber z b s p u v r shut
+unfolding namedChecks namedNumber
+named-checked z b sound s p u v r shut = rw (sound-true z b sound)
+
 -- n is the number of what is named; itself is the set of the taker alone, and m the number of the lines
 module _ (z : Sizes) (b : Tables) (s p u v r n : ℕ) (is : n ≡ namedNumber z b s p u v r (eqb u 0)) where
   pub map-refused : (n ≡ 0 → ⊥) → refuse (alone b) n ≡ step z (alone b) (Map s p u v r)

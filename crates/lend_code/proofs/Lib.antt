@@ -13,3 +13,5 @@ pub mod Taken
 pub mod LendingNumbers
 pub mod LendingCalls
 pub mod Access
+pub mod Ranges
+pub mod RangeLoop

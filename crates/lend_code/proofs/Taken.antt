@@ -116,6 +116,15 @@ entry-dropped z f c next sound t u v hv =
         (other j e (eqb (pageNamed z (placeAt c j)) (key z u v)) refl (filled (placeAt c j)) refl)
 
 -- ── the board ────────────────────────────────────────────────────────────
+-- on sound tables, the pages that had a right before and have none after are those that were emptied
+pub lost-between : (z : Sizes) (live more : List Bool) (b new : List Slot) → length b ≡ slotCount z → length new ≡ slotCount z
+    → SoundPages z live (slotAt b) → SoundPages z more (slotAt new) → lostAll z (rightsOf z b) (rightsOf z new) ≡ emptied b new
+unfolding lostAll
+lost-between z live more b new long new-long before after =
+    ap (count (slotCount z)) (fun-ext (λ k. rw (rights-at z b k long, rights-at z new k new-long)))
+    ∙ (ap (λ (n : ℕ). count n (λ k. not (eqb (slotAt b k .rights) 0) && eqb (slotAt new k .rights) 0)) (sym long)
+    ∙ sym (rights-count z live more b new before after))
+
 module _ (z : Sizes) (b : Tables) (sound : Sound z b) (new : List Slot) (u v : ℕ) (hv : v < z .pages) (long : length new ≡ slotCount z)
     (after-sound : SoundPages z (b .live) (slotAt new)) where
   before-at : (k : ℕ) → getD (rightsOf z (b .slots)) k 0 ≡ tableOf b k .rights
@@ -125,11 +134,7 @@ module _ (z : Sizes) (b : Tables) (sound : Sound z b) (new : List Slot) (u v : �
   after-at k = rights-at z new k long
 
   lost-are : lostAll z (rightsOf z (b .slots)) (rightsOf z new) ≡ emptied (b .slots) new
-  unfolding lostAll
-  lost-are =
-      ap (count (slotCount z)) (fun-ext (λ k. rw (before-at k, after-at k)))
-      ∙ (ap (λ (n : ℕ). count n (λ k. not (eqb (tableOf b k .rights) 0) && eqb (slotAt new k .rights) 0)) (sym (sound .shape .slots-long))
-      ∙ sym (rights-count z (b .live) (b .live) (b .slots) new (sound .pages) after-sound))
+  lost-are = lost-between z (b .live) (b .live) (b .slots) new (sound .shape .slots-long) long (sound .pages) after-sound
 
   lost-same : lostIn (rightsOf z (b .slots)) (rightsOf z new) ≡ lostRight (tableOf b) (slotAt new)
   unfolding lostRight

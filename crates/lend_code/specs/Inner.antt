@@ -18,7 +18,7 @@ use Rattle.lend.specs.Line.{line, lineOf, frameOf}
 use Rattle.lend.specs.Cache.{filled, pageNamed, placeAt, placeFor, droppedWhere}
 use Rattle.lend.specs.SoundTest.{slotTest, isEmptyPlace, soundTest}
 use Rattle.lend.specs.Start.{startBoard}
-use Rattle.lend.specs.Numbers.{noSpace, notLive, noPage, badRights}
+use Rattle.lend.specs.Numbers.{noSpace, noPage, badRights}
 use Rattle.lend.specs.Calls.{Outcome, plainReply}
 
 -- the page that a link leads to, or the number of all pages where it leads to none
@@ -116,11 +116,13 @@ unfoldable pub placesFit : Sizes → List ℕ → List ℕ → List Place → Bo
 placesFit z rights frames c = every (z .places) (λ i. placeOk z rights frames c i (placeAt c i))
 
 -- ── the calls ────────────────────────────────────────────────────────────
--- the numbers of a call that names a page and rights, with the rest of them
+-- the numbers of a call that names a page and rights, with the rest of them; first on a board that is known to be sound
+unfoldable pub pageChecks : Sizes → List Bool → ℕ → ℕ → ℕ → ℕ → ℕ
+pageChecks z live space page rights rest =
+    cond (noSpace z space) 3 (cond (not (alive live space)) 4 (cond (noPage z page) 5 (cond (badRights rights) 6 rest)))
+
 unfoldable pub pageNumber : Sizes → Tables → ℕ → ℕ → ℕ → ℕ → ℕ
-pageNumber z b space page rights rest =
-    cond (not (soundTest z b)) 1
-    (cond (noSpace z space) 3 (cond (notLive b space) 4 (cond (noPage z page) 5 (cond (badRights rights) 6 rest))))
+pageNumber z b space page rights rest = cond (not (soundTest z b)) 1 (pageChecks z (b .live) space page rights rest)
 
 -- the page y alone
 unfoldable pub onlyPage : Sizes → ℕ → List Bool

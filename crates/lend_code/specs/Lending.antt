@@ -8,11 +8,11 @@ use Rattle.lend.specs.Sizes.{Sizes, slotCount, spaceOf}
 use Rattle.lend.specs.Rights.{within}
 use Rattle.lend.specs.Lists.{any, some}
 use Rattle.lend.specs.Slots.{slotAt, held}
-use Rattle.lend.specs.Tables.{Tables, alone}
+use Rattle.lend.specs.Tables.{Tables, alone, alive}
 use Rattle.lend.specs.Line.{lineOf}
 use Rattle.lend.specs.Cache.{placeFor, dropped, droppedWhere}
 use Rattle.lend.specs.SoundTest.{soundTest}
-use Rattle.lend.specs.Numbers.{Case, _when_, firstOf, noSpace, notLive, noPage, badRights}
+use Rattle.lend.specs.Numbers.{Case, _when_, firstOf, noSpace, noPage, badRights}
 use Rattle.lend.specs.Calls.{Outcome, plainReply}
 use Rattle.lend_code.specs.Inner.{has, insideOf, lineHas, rightsOf, rightsLeft, slotsWith, lostAll, lostIn, onlyPage, spacePages}
 
@@ -25,16 +25,21 @@ unfoldable pub otherIn : Sizes → List Bool → ℕ → ℕ → Bool
 otherIn z set space but = some (slotCount z) (λ k. has set k && eqb (spaceOf z k) space && not (eqb k but))
 
 -- ── the numbers ──────────────────────────────────────────────────────────
--- what is judged of the numbers that a map or a grant names
-abbrev pub namedCases : Sizes → Tables → ℕ → ℕ → ℕ → ℕ → ℕ → Bool → List Case
-namedCases z b from page to at rights shut =
-    (1 when not (soundTest z b))
-    ∷ (3 when (noSpace z from || noSpace z to))
-    ∷ (4 when (notLive b from || notLive b to))
+-- what is judged of the numbers that a map or a grant names; first on a board that is known to be sound
+abbrev pub checkedCases : Sizes → List Bool → ℕ → ℕ → ℕ → ℕ → ℕ → Bool → List Case
+checkedCases z live from page to at rights shut =
+    (3 when (noSpace z from || noSpace z to))
+    ∷ (4 when (not (alive live from) || not (alive live to)))
     ∷ (5 when (noPage z page || noPage z at))
     ∷ (6 when badRights rights)
     ∷ (9 when shut)
     ∷ []
+
+unfoldable pub namedChecks : Sizes → List Bool → ℕ → ℕ → ℕ → ℕ → ℕ → Bool → ℕ
+namedChecks z live from page to at rights shut = firstOf (checkedCases z live from page to at rights shut)
+
+abbrev pub namedCases : Sizes → Tables → ℕ → ℕ → ℕ → ℕ → ℕ → Bool → List Case
+namedCases z b from page to at rights shut = (1 when not (soundTest z b)) ∷ checkedCases z (b .live) from page to at rights shut
 
 unfoldable pub namedNumber : Sizes → Tables → ℕ → ℕ → ℕ → ℕ → ℕ → Bool → ℕ
 namedNumber z b from page to at rights shut = firstOf (namedCases z b from page to at rights shut)

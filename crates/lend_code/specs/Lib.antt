@@ -1,3 +1,4 @@
 pub mod Inner
 pub mod Lending
 pub mod Access
+pub mod Ranges

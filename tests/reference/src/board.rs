@@ -537,6 +537,12 @@ impl Board {
             }
             Call::Load { space, address } => self.load(memory, space, address).map(|byte| Reply::done(byte as u32, 0)),
             Call::Store { space, address, value } => self.store(memory, space, address, value).map(|()| Reply::done(0, 0)),
+            Call::UnmapRange(asked) => Ok(self.unmap_range(asked.space, asked.range, asked.rights).into()),
+            Call::FlushRange(asked) => Ok(self.flush_range(asked.space, asked.range, asked.rights).into()),
+            Call::MapRange(asked) => Ok(self.map_range(asked.from, asked.given, asked.to, asked.taken, asked.rights).into()),
+            Call::GrantRange(asked) => {
+                Ok(self.grant_range(asked.from, asked.given, asked.to, asked.taken, asked.rights).into())
+            }
         };
         answer.unwrap_or_else(Reply::from)
     }

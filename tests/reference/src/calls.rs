@@ -54,6 +54,31 @@ pub struct Lending {
     pub rights: u32,
 }
 
+/// A range as a caller states it: base in KiB and size.
+#[derive(Clone, Copy, Debug, PartialEq, Eq)]
+pub struct Range {
+    pub base: u32,
+    pub size: u32,
+}
+
+/// What unmap and flush take over a range.
+#[derive(Clone, Copy, Debug, PartialEq, Eq)]
+pub struct RangeWithdrawal {
+    pub space: u32,
+    pub range: Range,
+    pub rights: u32,
+}
+
+/// What map and grant take over two ranges.
+#[derive(Clone, Copy, Debug, PartialEq, Eq)]
+pub struct RangeLending {
+    pub from: u32,
+    pub given: Range,
+    pub to: u32,
+    pub taken: Range,
+    pub rights: u32,
+}
+
 /// A call with its parameters, which may be any numbers.
 #[derive(Clone, Copy, Debug, PartialEq, Eq)]
 pub enum Call {
@@ -68,6 +93,10 @@ pub enum Call {
     Translate { space: u32, address: u32, rights: u32 },
     Load { space: u32, address: u32 },
     Store { space: u32, address: u32, value: u8 },
+    UnmapRange(RangeWithdrawal),
+    FlushRange(RangeWithdrawal),
+    MapRange(RangeLending),
+    GrantRange(RangeLending),
 }
 
 /// Which call it is.
@@ -83,6 +112,10 @@ pub enum Kind {
     Translate,
     Load,
     Store,
+    UnmapRange,
+    FlushRange,
+    MapRange,
+    GrantRange,
     Sound,
 }
 
@@ -100,20 +133,24 @@ impl Call {
             Call::Translate { .. } => Kind::Translate,
             Call::Load { .. } => Kind::Load,
             Call::Store { .. } => Kind::Store,
+            Call::UnmapRange(_) => Kind::UnmapRange,
+            Call::FlushRange(_) => Kind::FlushRange,
+            Call::MapRange(_) => Kind::MapRange,
+            Call::GrantRange(_) => Kind::GrantRange,
         }
     }
 }
 
 impl Kind {
     /// How many kinds there are.
-    pub const COUNT: usize = 11;
+    pub const COUNT: usize = 15;
 
     /// The calls that a script has.
     pub const SCRIPT: [Kind; 7] =
         [Kind::Create, Kind::Delete, Kind::Unmap, Kind::Flush, Kind::Map, Kind::Grant, Kind::Translate];
 
     /// The calls of the library that answer a number of the table (`sound` answers yes or no).
-    pub const LIBRARY: [Kind; 10] = [
+    pub const LIBRARY: [Kind; 14] = [
         Kind::Start,
         Kind::Create,
         Kind::Delete,
@@ -124,10 +161,14 @@ impl Kind {
         Kind::Translate,
         Kind::Load,
         Kind::Store,
+        Kind::UnmapRange,
+        Kind::FlushRange,
+        Kind::MapRange,
+        Kind::GrantRange,
     ];
 
     /// The calls that act on a board, so all but start and sound.
-    pub const BOARD: [Kind; 9] = [
+    pub const BOARD: [Kind; 13] = [
         Kind::Create,
         Kind::Delete,
         Kind::Unmap,
@@ -137,6 +178,10 @@ impl Kind {
         Kind::Translate,
         Kind::Load,
         Kind::Store,
+        Kind::UnmapRange,
+        Kind::FlushRange,
+        Kind::MapRange,
+        Kind::GrantRange,
     ];
 
     pub fn name(self) -> &'static str {
@@ -151,6 +196,10 @@ impl Kind {
             Kind::Translate => "translate",
             Kind::Load => "load",
             Kind::Store => "store",
+            Kind::UnmapRange => "unmaps",
+            Kind::FlushRange => "flushes",
+            Kind::MapRange => "maps",
+            Kind::GrantRange => "grants",
             Kind::Sound => "sound",
         }
     }
@@ -166,6 +215,9 @@ impl Kind {
             Kind::Map | Kind::Grant => &[0, 1, 3, 4, 5, 6, 9, 11, 12, 13, 14, 15],
             Kind::Translate => &[0, 1, 3, 4, 5, 6, 11, 12],
             Kind::Load | Kind::Store => &[0, 1, 2, 3, 4, 5, 11, 12],
+            Kind::UnmapRange => &[0, 1, 3, 4, 6, 7],
+            Kind::FlushRange => &[0, 1, 3, 4, 6, 7, 9],
+            Kind::MapRange | Kind::GrantRange => &[0, 1, 3, 4, 6, 7, 8, 9, 11, 12, 13, 14, 15],
         }
     }
 
@@ -188,6 +240,11 @@ impl Reply {
     /// Done, with these first two out fields.
     pub fn done(first: u32, second: u32) -> Reply {
         Reply { number: 0, out: [first, second, 0, 0], strayed: false }
+    }
+
+    /// Of a call over a range: the number, the pages done, the offset of the first refused one, and the pages emptied.
+    pub fn range(number: u32, done: u32, offset: u32, emptied: u32) -> Reply {
+        Reply { number, out: [done, offset, emptied, 0], strayed: false }
     }
 
     /// Refused, or an answer that is a number only.

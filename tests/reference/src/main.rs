@@ -22,7 +22,8 @@ use std::io::{Read, Write};
 use std::process::ExitCode;
 use std::time::{Duration, Instant};
 
-const USAGE: &str = "reference script --program PATH | library --driver COMMAND | rehearse | answer  [--seed N] [--count N] [--seconds N]";
+const USAGE: &str =
+    "reference script --program PATH | library --driver COMMAND | rehearse | answer  [--seed N] [--count N] [--seconds N]";
 const DEFAULT_SECONDS: u64 = 60;
 
 #[derive(Debug, Default)]

@@ -1,14 +1,7 @@
-//! The calls over ranges (01, "Ranges"). Nothing drives them yet: the C interface has no range calls so far.
+//! The calls over ranges (01, "Ranges").
 
 use crate::board::{refuse_if, Board};
-use crate::calls::{Lending, Refusal, Withdrawal};
-
-/// A range as a caller states it: base in KiB and size.
-#[derive(Clone, Copy, Debug, PartialEq, Eq)]
-pub struct Range {
-    pub base: u32,
-    pub size: u32,
-}
+use crate::calls::{Lending, Range, Refusal, Reply, Withdrawal};
 
 /// The pages of a valid range.
 #[derive(Clone, Copy, Debug, PartialEq, Eq)]
@@ -28,6 +21,12 @@ pub struct RangeReply {
     pub first_refused: u32,
     /// Pages held before the whole call and empty after it.
     pub emptied: u32,
+}
+
+impl From<RangeReply> for Reply {
+    fn from(reply: RangeReply) -> Reply {
+        Reply::range(reply.number, reply.done, reply.first_refused, reply.emptied)
+    }
 }
 
 impl From<Refusal> for RangeReply {

@@ -151,6 +151,7 @@ pub fn write_line(call: &Call) -> Option<String> {
             Some(format!("op=translate space={space} address={address} rights={rights}"))
         }
         Call::Start | Call::Sound | Call::Load { .. } | Call::Store { .. } => None,
+        Call::UnmapRange(_) | Call::FlushRange(_) | Call::MapRange(_) | Call::GrantRange(_) => None,
     }
 }
 

@@ -1,7 +1,7 @@
 //! The C functions of the entry model (lend.h), served by a driver process: the kit compiles for x86-64 alone, and this program
 //! runs on whatever machine it is built on. `tests/driver/driver.c` has the other end and says what goes over the pipe.
 
-use crate::calls::{Call, Reply};
+use crate::calls::{Call, RangeLending, RangeWithdrawal, Reply};
 use crate::drive_library::Subject;
 use std::io::{BufReader, BufWriter, Read, Write};
 use std::process::{Child, ChildStdin, ChildStdout, Command, Stdio};
@@ -93,5 +93,18 @@ fn spelled(call: &Call) -> (u8, [u32; 7], u8) {
         Call::Translate { space, address, rights } => (b't', three(space, address, rights), 0),
         Call::Load { space, address } => (b'l', three(space, address, 0), 0),
         Call::Store { space, address, value } => (b'w', three(space, address, 0), value),
+        Call::UnmapRange(asked) => (b'U', withdrawn(&asked), 0),
+        Call::FlushRange(asked) => (b'F', withdrawn(&asked), 0),
+        Call::MapRange(asked) => (b'M', lent(&asked), 0),
+        Call::GrantRange(asked) => (b'G', lent(&asked), 0),
     }
+}
+
+fn withdrawn(asked: &RangeWithdrawal) -> [u32; 7] {
+    [asked.space, asked.range.base, asked.range.size, asked.rights, 0, 0, 0]
+}
+
+fn lent(asked: &RangeLending) -> [u32; 7] {
+    let (given, taken) = (asked.given, asked.taken);
+    [asked.from, given.base, given.size, asked.to, taken.base, taken.size, asked.rights]
 }

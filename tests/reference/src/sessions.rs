@@ -2,7 +2,7 @@
 //! around, spaces deleted and created again, and every refusal.
 
 use crate::board::{spot, Board, Link, Place, Slot, Spot};
-use crate::calls::{Call, Kind, Lending, Withdrawal, ALL_RIGHTS};
+use crate::calls::{Call, Kind, Lending, Range, RangeLending, RangeWithdrawal, Withdrawal, ALL_RIGHTS};
 use crate::lines::{comment, spoil, Flaw};
 use crate::random::Random;
 use crate::script::{parse, write_line, INPUT_LIMIT};
@@ -332,6 +332,37 @@ impl Loose<'_> {
         }
     }
 
+    /// A range, most often a valid one; wide ones are as likely as narrow ones.
+    fn range(&mut self, good_page: usize) -> Range {
+        if self.odd() {
+            let base = self.page(good_page);
+            let size = self.random.pick(&[0, 1, 2, 8, 9, 16, 17, 31, 42, 255, 1034, u32::MAX]);
+            return Range { base, size };
+        }
+        match self.random.below(12) {
+            0 => Range { base: 0, size: 0 },
+            1 | 2 => Range { base: 0, size: 1 },
+            _ => Range { base: good_page as u32, size: 10 + self.random.below(6) as u32 },
+        }
+    }
+
+    fn range_withdrawal(&mut self) -> RangeWithdrawal {
+        let named = some_held(self.random, self.board);
+        RangeWithdrawal { space: self.space(named.space), range: self.range(named.page), rights: self.rights() }
+    }
+
+    /// Two ranges, of the same size more often than not.
+    fn range_lending(&mut self) -> RangeLending {
+        let Lending { from, page, to, at, rights } = self.lending();
+        let given = self.range(page as usize % self.board.sizes.pages);
+        let mut taken = self.range(at as usize % self.board.sizes.pages);
+        if self.random.chance(80) {
+            taken.size = given.size;
+            taken.base = if given.size < 2 { 0 } else { taken.base };
+        }
+        RangeLending { from, given, to, taken, rights }
+    }
+
     fn call(&mut self, kind: Kind) -> Call {
         let some = some_held(self.random, self.board);
         match kind {
@@ -348,6 +379,10 @@ impl Loose<'_> {
             Kind::Store => {
                 Call::Store { space: self.space(some.space), address: self.address(some.page), value: self.random.byte() }
             }
+            Kind::UnmapRange => Call::UnmapRange(self.range_withdrawal()),
+            Kind::FlushRange => Call::FlushRange(self.range_withdrawal()),
+            Kind::MapRange => Call::MapRange(self.range_lending()),
+            Kind::GrantRange => Call::GrantRange(self.range_lending()),
             Kind::Start => Call::Start,
             Kind::Sound => Call::Sound,
         }

@@ -1,12 +1,9 @@
 -- `page_number` meets its contract: the tests are the cases, in their order.
 use Rattle.entry_calls.proofs as own
-use Rattle.lend_code.specs.Inner.{pageNumber}
+use Rattle.lend_code.specs.Inner.{pageChecks}
 use borrow.Author.Needs.{needs}
 use own.checks.page_number.Statement.{statement}
 use own.checks.page_number.Tie as tie
-
-sound-requires : tie.Need-sound-requires
-sound-requires c κs = search needs
 
 live-at-requires : tie.Need-live-at-requires
 live-at-requires c κs = search needs
@@ -23,22 +20,17 @@ pick-requires-3 c κs = search needs
 pick-requires-4 : tie.Need-pick-requires-4
 pick-requires-4 c κs = search needs
 
-pick-requires-5 : tie.Need-pick-requires-5
-pick-requires-5 c κs = search needs
-
 returns : tie.Need-returns
-unfolding pageNumber
+unfolding pageChecks
 returns c = cc
 
 pub page-number-spec : {M : Type 1} → statement M
 page-number-spec =
     tie.close
     (tie.spec
-    sound-requires
     live-at-requires
     pick-requires
     pick-requires-2
     pick-requires-3
     pick-requires-4
-    pick-requires-5
     returns)

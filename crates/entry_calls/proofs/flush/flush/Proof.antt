@@ -1,73 +1,27 @@
--- `flush` meets its contract: what the number 0 has shown makes the withdrawal that of the rules.
+-- `flush` meets its contract: a board that is not sound is refused with 1, and on a sound one `flush_page` does the rest.
 use Rattle.entry_calls.proofs as own
-use Prim.Native.Nat.{ℕ}
-use mathlib.Core.Path.{_≡_, ap, _∙_}
-use mathlib.Core.Bool.{Bool}
-use mathlib.Core.List.{List}
-use native.Mathlib.Omega.{arith}
-use Rattle.lend.specs.Tables.{alone}
-use Rattle.lend.specs.Calls.{Flush, number}
-use Rattle.lend_code.specs.Inner.{lineHas, withdrawnOf}
-use Rattle.lend_code.proofs.Calls.{call-refused, flush-number, flush-shows, flush-done}
+use mathlib.Core.Path.{_∙_}
+use Rattle.lend_code.proofs.Calls.{call-unsound, sound-told}
 use Rattle.entry.specs.Sizes.{sizes}
-use Rattle.entry.specs.Board.{tables}
 use borrow.Author.Needs.{needs}
 use own.flush.flush.Statement.{statement}
 use own.flush.flush.Tie as tie
 
-pick-requires : tie.Need-pick-requires
-pick-requires c κs = search needs
-
-page-number-requires : tie.Need-page-number-requires
-page-number-requires c κs = search needs
+sound-requires : tie.Need-sound-requires
+sound-requires c κs = search needs
 
 refused-requires : tie.Need-refused-requires
 refused-requires c κs = search needs
 
-numbered : (c : tie.After-page-number) → c .page-number .result ≡ number sizes (alone (tables (c .before .before .args .b))) (Flush (c .before .before .args .space) (c .before .before .args .page) (c .before .before .args .rights))
-numbered c = c .page-number .ensures ∙ flush-number sizes (tables (c .before .before .args .b)) (c .before .before .args .space) (c .before .before .args .page) (c .before .before .args .rights) (c .before .pick .result) (c .before .pick .ensures)
-
 returns : tie.Need-returns
-returns c = c .refused .ensures ∙ call-refused sizes _ _ _ (numbered (c .before .before)) (c .before .if1 .taken)
+returns c = c .refused .ensures ∙ call-unsound sizes _ _ _ (c .before .before .sound .ensures) (c .before .if1 .taken)
 
-mul-y : tie.Need-mul-y
-mul-y c = search needs
-
-add-y : tie.Need-add-y
-add-y c = search needs
-
-only-requires : tie.Need-only-requires
-only-requires c κs = search needs
-
-line-has-requires : tie.Need-line-has-requires
-line-has-requires c κs = search needs
-
-cast-withdrawn : tie.Need-cast-withdrawn
-cast-withdrawn c = omega (arith, flush-shows sizes _ _ _ _ _ (numbered (c .before .before .before .before)) (c .before .before .before .if1 .left) .known-rights)
-
-withdrawn-requires : tie.Need-withdrawn-requires
-withdrawn-requires c κs = search needs
+flush-page-requires : tie.Need-flush-page-requires
+flush-page-requires c κs = sound-told sizes _ _ (c .before .sound .ensures) (c .if1 .left)
 
 returns-2 : tie.Need-returns-2
-returns-2 c =
-    let at-number = c .before .before .before .before .before in
-    let a = at-number .before .before .args in
-    c .withdrawn .ensures
-    ∙ (ap (λ (l : List Bool). withdrawnOf sizes (tables (a .b)) l (a .rights)) (c .before .line-has .ensures ∙ ap (lineHas sizes (a .b .slots)) (c .before .before .only .ensures))
-    ∙ flush-done sizes _ _ _ _ _ (numbered at-number) (c .before .before .before .before .if1 .left))
+returns-2 c = c .flush-page .ensures
 
 pub flush-spec : {M : Type 1} → statement M
 flush-spec =
-    tie.close
-    (tie.spec
-    pick-requires
-    page-number-requires
-    refused-requires
-    returns
-    mul-y
-    add-y
-    only-requires
-    line-has-requires
-    cast-withdrawn
-    withdrawn-requires
-    returns-2)
+    tie.close (tie.spec sound-requires refused-requires returns flush-page-requires returns-2)

@@ -1,12 +1,9 @@
 -- `named_number` meets its contract: the tests are the cases, in their order.
 use Rattle.entry_lending.proofs as own
-use Rattle.lend_code.specs.Lending.{namedNumber}
+use Rattle.lend_code.specs.Lending.{namedChecks}
 use borrow.Author.Needs.{needs}
 use own.checks.named_number.Statement.{statement}
 use own.checks.named_number.Tie as tie
-
-sound-requires : tie.Need-sound-requires
-sound-requires c κs = search needs
 
 live-at-requires : tie.Need-live-at-requires
 live-at-requires c κs = search needs
@@ -29,18 +26,14 @@ pick-requires-4 c κs = search needs
 pick-requires-5 : tie.Need-pick-requires-5
 pick-requires-5 c κs = search needs
 
-pick-requires-6 : tie.Need-pick-requires-6
-pick-requires-6 c κs = search needs
-
 returns : tie.Need-returns
-unfolding namedNumber
+unfolding namedChecks
 returns c = cc
 
 pub named-number-spec : {M : Type 1} → statement M
 named-number-spec =
     tie.close
     (tie.spec
-    sound-requires
     live-at-requires
     live-at-requires-2
     pick-requires
@@ -48,5 +41,4 @@ named-number-spec =
     pick-requires-3
     pick-requires-4
     pick-requires-5
-    pick-requires-6
     returns)
