@@ -15,6 +15,7 @@ VIEWS = {
     'tables': 'boardOf-tables (specs/Board.antt of the board)',
     'outcome': 'answerOf-outcome (specs/Answer.antt of the calls)',
     'rangeOutcome': 'rangeAnswerOf-rangeOutcome (specs/RangeAnswer.antt of the calls)',
+    'rangeMeant': 'rangeBack-meant (specs/Range.antt of the board)',
     'translated': 'translatedOf-translated (specs/Answers.antt)',
     'seen': 'seenOf-seen (specs/Answers.antt)',
 }
