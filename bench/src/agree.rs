@@ -1,0 +1,81 @@
+//! Holds the three columns to one another: same number, same out fields, same bytes. Not timed.
+use crate::boards::{deep, flat, mixed, request, Random, Ring};
+use crate::calls::{Call, Numbers, Out, CALLS};
+use crate::image_plain::{image_of, IMAGE};
+use crate::own::Board;
+use crate::plain::MEMORY;
+
+/// What a call leaves behind.
+#[derive(PartialEq, Debug)]
+struct Left {
+    number: u32,
+    out: Out,
+    image: Vec<u8>,
+    memory: Vec<u8>,
+}
+
+fn memory() -> Vec<u8> {
+    (0..MEMORY).map(|i| (i % 251) as u8).collect()
+}
+
+fn on_image(f: crate::calls::OnImage, image: &[u8], numbers: &Numbers) -> Left {
+    let (mut image, mut memory, mut out) = (image.to_vec(), memory(), [9; 4]);
+    let number = f(&mut image, &mut memory, numbers, &mut out);
+    Left { number, out, image, memory }
+}
+
+fn on_board(call: &Call, board: &Board, numbers: &Numbers) -> Left {
+    let (mut board, mut memory, mut out) = (board.clone(), memory(), [9; 4]);
+    let number = (call.own)(&mut board, &mut memory, numbers, &mut out);
+    Left { number, out, image: image_of(&board).to_vec(), memory }
+}
+
+fn same(call: &Call, numbers: &Numbers, one: &Left, other: &Left) {
+    assert!(
+        one == other,
+        "{} {numbers:?}: the columns differ: {} {:?} and {} {:?}",
+        call.name,
+        one.number,
+        one.out,
+        other.number,
+        other.out
+    );
+}
+
+/// All three columns on one board.
+fn all_three(call: &Call, board: &Board, image: &[u8; IMAGE], numbers: &Numbers) {
+    let library = on_image(call.library, image, numbers);
+    same(call, numbers, &library, &on_image(call.image, image, numbers));
+    same(call, numbers, &library, &on_board(call, board, numbers));
+}
+
+/// Every call on every board of the ring: the ring's own request for its call.
+pub fn on_ring(call: &Call, ring: &Ring) -> usize {
+    for ((board, image), numbers) in ring.boards.iter().zip(&ring.images).zip(&ring.numbers) {
+        all_three(call, board, image, numbers);
+    }
+    ring.boards.len()
+}
+
+/// Every call with random numbers, bad ones among them, on random boards and on damaged images.
+pub fn at_random(random: &mut Random, boards: usize) -> usize {
+    let mut compared = 0;
+    for turn in 0..boards {
+        let board = [flat, deep, mixed, mixed][turn % 4](random);
+        let image = image_of(&board);
+        let mut damaged = image;
+        damaged[random.below(IMAGE as u32) as usize] = random.below(10) as u8;
+        for call in &CALLS {
+            for _ in 0..8 {
+                let mut numbers = request(random, call.name, 9);
+                if random.below(8) == 0 {
+                    numbers[random.below(5) as usize] = random.below(40_000);
+                }
+                all_three(call, &board, &image, &numbers);
+                same(call, &numbers, &on_image(call.library, &damaged, &numbers), &on_image(call.image, &damaged, &numbers));
+                compared += 2;
+            }
+        }
+    }
+    compared
+}

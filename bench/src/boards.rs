@@ -1,0 +1,135 @@
+//! The boards and requests that are timed: rings of different boards, each with a request that is done on it.
+use crate::calls::{call, Numbers, Out};
+use crate::image_plain::{image_of, IMAGE};
+use crate::own::Board;
+use crate::plain::{Link, Slot, Tables, MEMORY, PAGES, PAGE_BYTES, SLOTS, SPACES};
+
+/// How many boards a ring has.
+pub const RING: usize = 256;
+
+/// Boards in both forms, and a request for each.
+pub struct Ring {
+    pub boards: Vec<Board>,
+    pub images: Vec<[u8; IMAGE]>,
+    pub numbers: Vec<Numbers>,
+}
+
+impl Ring {
+    /// A ring of boards, and for each a request that `wanted` picks by the answer on that board.
+    pub fn new(random: &mut Random, name: &str, board: fn(&mut Random) -> Board, wanted: fn(u32, &Out) -> bool) -> Ring {
+        let boards: Vec<Board> = (0..RING).map(|_| board(random)).collect();
+        let numbers = boards.iter().map(|b| wanted_request(random, name, b, wanted)).collect();
+        Ring { images: boards.iter().map(image_of).collect(), boards, numbers }
+    }
+
+    /// How many pages are held outside space 0, on the average.
+    pub fn held(&self) -> f64 {
+        let held = |b: &Board| (PAGES..SLOTS).filter(|&page| b.slot(page).held()).count();
+        self.boards.iter().map(held).sum::<usize>() as f64 / self.boards.len() as f64
+    }
+}
+
+/// A request whose answer on the board is as wanted.
+fn wanted_request(random: &mut Random, name: &str, board: &Board, wanted: fn(u32, &Out) -> bool) -> Numbers {
+    let own = call(name).own;
+    let (mut memory, mut out) = (vec![0; MEMORY], Out::default());
+    for _ in 0..1_000_000 {
+        let numbers = request(random, name, SPACES as u32);
+        let number = own(&mut board.clone(), &mut memory, &numbers, &mut out);
+        if wanted(number, &out) {
+            return numbers;
+        }
+    }
+    panic!("no request for {name} on this board");
+}
+
+/// Random numbers for a call, with spaces below `spaces`.
+pub fn request(random: &mut Random, name: &str, spaces: u32) -> Numbers {
+    let (space, page, rights) = (random.below(spaces), random.below(PAGES as u32), 1 + random.below(7));
+    let address = PAGE_BYTES * page + random.below(PAGE_BYTES);
+    match name {
+        "unmap" | "flush" => [space, page, rights, 0, 0],
+        "map" | "grant" => [space, page, random.below(spaces), random.below(PAGES as u32), rights],
+        "translate" => [space, address, rights, 0, 0],
+        "load" | "store" => [space, address, random.below(256), 0, 0],
+        _ => [space, 0, 0, 0, 0],
+    }
+}
+
+/// Makes a call on a board of plain Rust and forgets its answer.
+fn make(board: &mut Board, name: &str, numbers: &Numbers) {
+    (call(name).own)(board, &mut [0; MEMORY], numbers, &mut Out::default());
+}
+
+/// Up to 12 translations that are asked for, so that the cache has some entries, or is full.
+fn fill_cache(random: &mut Random, board: &mut Board) {
+    for _ in 0..1 + random.below(12) {
+        let [space, address, ..] = request(random, "translate", SPACES as u32);
+        (1..=7).for_each(|rights| make(board, "translate", &[space, address, rights, 0, 0]));
+    }
+    make(board, "translate", &[0, random.below(MEMORY as u32), 4, 0, 0]);
+}
+
+/// A board whose every line has one page: only space 0 holds pages.
+pub fn flat(random: &mut Random) -> Board {
+    let mut board = Board::start();
+    (2..SPACES as u32).filter(|_| random.below(2) == 0).for_each(|space| make(&mut board, "create", &[space, 0, 0, 0, 0]));
+    fill_cache(random, &mut board);
+    board
+}
+
+/// A board whose longest lines have eight pages: every page of every space is held, and each page of space 0 has seven below it.
+pub fn deep(random: &mut Random) -> Board {
+    let mut board = Board::start();
+    let mut lender = 0;
+    for space in random.shuffled::<{ SPACES - 1 }>().map(|s| s + 1) {
+        board.set_live(space, true);
+        for (page, at) in random.shuffled::<PAGES>().into_iter().enumerate() {
+            let most = board.slot(PAGES * lender + at).rights;
+            let fewer = most & !(1 << random.below(3));
+            let rights = if fewer != 0 && random.below(6) == 0 { fewer } else { most };
+            board.set_slot(PAGES * space + page, Slot { link: Link::Page(lender as u8, at as u8), rights });
+        }
+        lender = space;
+    }
+    fill_cache(random, &mut board);
+    board
+}
+
+/// A board as it stands after a while: all spaces live but one, and pages lent on from space to space.
+pub fn mixed(random: &mut Random) -> Board {
+    let mut board = Board::start();
+    let idle = 2 + random.below(SPACES as u32 - 2);
+    (2..SPACES as u32).filter(|&s| s != idle).for_each(|space| make(&mut board, "create", &[space, 0, 0, 0, 0]));
+    for turn in 0..400 {
+        let name =
+            ["map", "map", "map", "map", "grant", "unmap", "flush"][if turn < 200 { 0 } else { random.below(7) as usize }];
+        let mut numbers = request(random, name, SPACES as u32);
+        if name == "map" && random.below(2) == 0 {
+            numbers[4] = 7;
+        }
+        make(&mut board, name, &numbers);
+    }
+    fill_cache(random, &mut board);
+    board
+}
+
+/// Random numbers that are the same in every run (xorshift).
+pub struct Random(pub u64);
+
+impl Random {
+    /// A number below `bound`.
+    pub fn below(&mut self, bound: u32) -> u32 {
+        self.0 ^= self.0 << 13;
+        self.0 ^= self.0 >> 7;
+        self.0 ^= self.0 << 17;
+        ((self.0 >> 32) % u64::from(bound)) as u32
+    }
+
+    /// The numbers below N in some order.
+    fn shuffled<const N: usize>(&mut self) -> [usize; N] {
+        let mut order = std::array::from_fn(|i| i);
+        (1..N).for_each(|i| order.swap(i, self.below(i as u32 + 1) as usize));
+        order
+    }
+}

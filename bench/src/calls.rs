@@ -1,0 +1,81 @@
+//! The shape that every column's calls have, so that one loop can time them all.
+use crate::library::{counting, proved};
+use crate::own::Board;
+use crate::plain::Refusal;
+use crate::{image_plain, own};
+
+/// The numbers of a request, in the order of include/lend.h.
+pub type Numbers = [u32; 5];
+/// The out fields of an answer.
+pub type Out = [u32; 4];
+/// A call over an image, and one over a board of plain Rust. The memory is for load and store.
+pub type OnImage = fn(&mut [u8], &mut [u8], &Numbers, &mut Out) -> u32;
+pub type OnBoard = fn(&mut Board, &mut [u8], &Numbers, &mut Out) -> u32;
+
+/// Calls the macro with each call's name and what it does in plain Rust.
+macro_rules! each_call {
+    ($make:ident) => {
+        $make!(start, |b, _memory, _n, _out| {
+            crate::plain::start(b);
+            0
+        });
+        $make!(sound, |b, _memory, _n, _out| u32::from(crate::plain::sound(b)));
+        $make!(create, |b, _memory, n, out| crate::calls::answer(crate::plain::create(b, n[0]), out));
+        $make!(delete, |b, _memory, n, out| crate::calls::answer(crate::plain::delete(b, n[0]), out));
+        $make!(unmap, |b, _memory, n, out| crate::calls::answer(crate::plain::unmap(b, n[0], n[1], n[2]), out));
+        $make!(flush, |b, _memory, n, out| crate::calls::answer(crate::plain::flush(b, n[0], n[1], n[2]), out));
+        $make!(map, |b, _memory, n, out| crate::calls::answer(crate::plain::map(b, n[0], n[1], n[2], n[3], n[4]), out));
+        $make!(grant, |b, _memory, n, out| crate::calls::answer(crate::plain::grant(b, n[0], n[1], n[2], n[3], n[4]), out));
+        $make!(translate, |b, _memory, n, out| {
+            let answer = crate::plain::translate(b, n[0], n[1], n[2]);
+            out[1] = answer.map_or(0, |found| u32::from(found.hit));
+            crate::calls::answer(answer.map(|found| found.address), out)
+        });
+        $make!(load, |b, memory, n, out| crate::calls::answer(crate::plain::load(b, memory, n[0], n[1]).map(u32::from), out));
+        $make!(store, |b, memory, n, out| {
+            crate::calls::answer(crate::plain::store(b, memory, n[0], n[1], n[2] as u8).map(|()| 0), out)
+        });
+    };
+}
+pub(crate) use each_call;
+
+/// The number of an answer, its first field put where it belongs.
+pub fn answer(answer: Result<u32, Refusal>, out: &mut Out) -> u32 {
+    match answer {
+        Ok(first) => {
+            out[0] = first;
+            0
+        }
+        Err(refusal) => refusal as u32,
+    }
+}
+
+/// One call in its three columns.
+#[derive(Clone, Copy)]
+pub struct Call {
+    pub name: &'static str,
+    pub library: OnImage,
+    /// The library with its copies of memory counted: not for timing.
+    pub counting: OnImage,
+    pub image: OnImage,
+    pub own: OnBoard,
+}
+
+macro_rules! table {
+    ($($name:ident)*) => {
+        /// Every call.
+        pub const CALLS: [Call; 11] = [$(Call {
+            name: stringify!($name),
+            library: proved::$name,
+            counting: counting::$name,
+            image: image_plain::$name,
+            own: own::$name,
+        }),*];
+    };
+}
+table!(start sound create delete unmap flush map grant translate load store);
+
+/// The call of that name.
+pub fn call(name: &str) -> Call {
+    *CALLS.iter().find(|call| call.name == name).expect("a call's name")
+}

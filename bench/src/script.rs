@@ -1,0 +1,140 @@
+//! The script program in plain Rust, a session for it, and the time of a program that runs it.
+use crate::boards::{request, Random};
+use crate::calls::{call, Numbers, Out};
+use crate::own::Board;
+use crate::plain::{Link, Tables, PAGES, SLOTS};
+use std::fmt::Write as _;
+use std::io::Write as _;
+use std::process::{Command, Stdio};
+use std::time::{Duration, Instant};
+
+const INPUT: usize = 65_536;
+const LINE: usize = 80;
+
+/// Each command and its keys.
+const FORMS: [(&str, &[&str]); 7] = [
+    ("create", &["space"]),
+    ("delete", &["space"]),
+    ("unmap", &["space", "page", "rights"]),
+    ("flush", &["space", "page", "rights"]),
+    ("map", &["from", "page", "to", "at", "rights"]),
+    ("grant", &["from", "page", "to", "at", "rights"]),
+    ("translate", &["space", "address", "rights"]),
+];
+
+fn number(text: &str) -> Option<u32> {
+    let digits = (1..=5).contains(&text.len()) && text.bytes().all(|b| b.is_ascii_digit());
+    if !digits || (text.len() > 1 && text.starts_with('0')) {
+        return None;
+    }
+    text.parse().ok()
+}
+
+/// The command of a line, or nothing where it is malformed.
+fn command(line: &[u8]) -> Option<(&'static str, Numbers)> {
+    if line.len() > LINE {
+        return None;
+    }
+    let mut words = std::str::from_utf8(line).ok()?.split(' ');
+    let name = words.next()?.strip_prefix("op=")?;
+    let (name, keys) = *FORMS.iter().find(|form| form.0 == name)?;
+    let mut numbers = Numbers::default();
+    for (key, place) in keys.iter().zip(&mut numbers) {
+        *place = number(words.next()?.strip_prefix(key)?.strip_prefix('=')?)?;
+    }
+    words.next().is_none().then_some((name, numbers))
+}
+
+/// Answers one line on the board.
+fn answer(board: &mut Board, at: usize, line: &[u8], output: &mut String) {
+    let mut out = Out::default();
+    let written = match command(line) {
+        None => writeln!(output, "line={at} answer=16"),
+        Some((name, numbers)) => {
+            let number = (call(name).own)(board, &mut [], &numbers, &mut out);
+            match name {
+                "translate" => writeln!(output, "line={at} answer={number} address={} hit={}", out[0], out[1]),
+                _ => writeln!(output, "line={at} answer={number} emptied={}", out[0]),
+            }
+        }
+    };
+    written.expect("a string takes all");
+}
+
+/// What the script program writes for an input.
+pub fn run(input: &[u8]) -> String {
+    let input = &input[..input.len().min(INPUT)];
+    let (mut board, mut output) = (Board::start(), String::new());
+    let whole = input.strip_suffix(b"\n").unwrap_or(input);
+    if !input.is_empty() {
+        for (at, line) in whole.split(|&b| b == b'\n').enumerate() {
+            if !line.starts_with(b"#") {
+                answer(&mut board, at + 1, line, &mut output);
+            }
+        }
+    }
+    let mut held = 0;
+    for page in PAGES..SLOTS {
+        let slot = board.slot(page);
+        if let Link::Page(parent, at) = slot.link {
+            let (space, page, rights) = (page / PAGES, page % PAGES, slot.rights);
+            writeln!(output, "space={space} page={page} parent={parent} at={at} rights={rights}").expect("a string takes all");
+            held += 1;
+        }
+    }
+    writeln!(output, "held={held}").expect("a string takes all");
+    output
+}
+
+/// A session of the greatest length: spaces made, then random commands.
+pub fn session(random: &mut Random) -> String {
+    let mut text: String = (2..8).map(|space| format!("op=create space={space}\n")).collect();
+    loop {
+        let name = ["map", "map", "map", "grant", "unmap", "flush", "translate", "translate"][random.below(8) as usize];
+        let keys = FORMS.iter().find(|form| form.0 == name).expect("a form").1;
+        let numbers = request(random, name, 8);
+        let words: String = keys.iter().zip(numbers).map(|(key, number)| format!(" {key}={number}")).collect();
+        let line = format!("op={name}{words}\n");
+        if text.len() + line.len() > INPUT {
+            return text;
+        }
+        text += &line;
+    }
+}
+
+/// Runs a program on an input; what it wrote, and how long it took.
+fn timed(program: &[String], input: &str) -> (Vec<u8>, Duration) {
+    let began = Instant::now();
+    let mut child = Command::new(&program[0])
+        .args(&program[1..])
+        .stdin(Stdio::piped())
+        .stdout(Stdio::piped())
+        .spawn()
+        .unwrap_or_else(|error| panic!("{}: {error}", program[0]));
+    let mut stdin = child.stdin.take().expect("its input");
+    let text = input.to_owned();
+    let feed = std::thread::spawn(move || stdin.write_all(text.as_bytes()));
+    let output = child.wait_with_output().expect("its end").stdout;
+    feed.join().expect("the feeding thread").expect("all of the input taken");
+    (output, began.elapsed())
+}
+
+/// Lines per second of each program in the seconds given, in turns; the best time on empty input is taken off the best time on the session.
+pub fn lines_per_second<const N: usize>(programs: &[Vec<String>; N], session: &str, seconds: f64) -> [f64; N] {
+    let (expected, empty) = (run(session.as_bytes()), run(b""));
+    let mut best = [[Duration::MAX; 2]; N];
+    let began = Instant::now();
+    let mut turns = 0;
+    while turns < 3 || began.elapsed().as_secs_f64() < seconds {
+        for (program, best) in programs.iter().zip(&mut best) {
+            for ((input, wanted), best) in [(session, &expected), ("", &empty)].into_iter().zip(best) {
+                let (output, took) = timed(program, input);
+                assert!(output == wanted.as_bytes(), "{}: it wrote something else than plain Rust", program[0]);
+                *best = took.min(*best);
+            }
+        }
+        turns += 1;
+    }
+    let lines = session.lines().count() as f64;
+    best.map(|[full, none]| lines / full.saturating_sub(none).as_secs_f64())
+}
