@@ -1,5 +1,5 @@
 //! Holds the three columns to one another: same number, same out fields, same bytes. Not timed.
-use crate::boards::{deep, flat, mixed, request, Random, Ring};
+use crate::boards::{deep, flat, lent, mixed, request, Random, Ring};
 use crate::calls::{Call, Numbers, Out, CALLS};
 use crate::image_plain::{image_of, IMAGE};
 use crate::own::Board;
@@ -61,7 +61,7 @@ pub fn on_ring(call: &Call, ring: &Ring) -> usize {
 pub fn at_random(random: &mut Random, boards: usize) -> usize {
     let mut compared = 0;
     for turn in 0..boards {
-        let board = [flat, deep, mixed, mixed][turn % 4](random);
+        let board = [flat, deep, mixed, lent][turn % 4](random);
         let image = image_of(&board);
         let mut damaged = image;
         damaged[random.below(IMAGE as u32) as usize] = random.below(10) as u8;
@@ -69,7 +69,7 @@ pub fn at_random(random: &mut Random, boards: usize) -> usize {
             for _ in 0..8 {
                 let mut numbers = request(random, call.name, 9);
                 if random.below(8) == 0 {
-                    numbers[random.below(5) as usize] = random.below(40_000);
+                    numbers[random.below(7) as usize] = random.below(40_000);
                 }
                 all_three(call, &board, &image, &numbers);
                 same(call, &numbers, &on_image(call.library, &damaged, &numbers), &on_image(call.image, &damaged, &numbers));

@@ -48,11 +48,28 @@ pub fn request(random: &mut Random, name: &str, spaces: u32) -> Numbers {
     let (space, page, rights) = (random.below(spaces), random.below(PAGES as u32), 1 + random.below(7));
     let address = PAGE_BYTES * page + random.below(PAGE_BYTES);
     match name {
-        "unmap" | "flush" => [space, page, rights, 0, 0],
-        "map" | "grant" => [space, page, random.below(spaces), random.below(PAGES as u32), rights],
-        "translate" => [space, address, rights, 0, 0],
-        "load" | "store" => [space, address, random.below(256), 0, 0],
-        _ => [space, 0, 0, 0, 0],
+        "unmap" | "flush" => [space, page, rights, 0, 0, 0, 0],
+        "map" | "grant" => [space, page, random.below(spaces), random.below(PAGES as u32), rights, 0, 0],
+        "translate" => [space, address, rights, 0, 0, 0, 0],
+        "load" | "store" => [space, address, random.below(256), 0, 0, 0, 0],
+        "unmap_range" | "flush_range" => {
+            let (base, size) = range(random);
+            [space, base, size, rights, 0, 0, 0]
+        }
+        "map_range" | "grant_range" => {
+            let ((base, size), (at_base, at_size)) = (range(random), range(random));
+            [space, base, size, random.below(spaces), at_base, at_size, rights]
+        }
+        _ => [space, 0, 0, 0, 0, 0, 0],
+    }
+}
+
+/// A base and a size: often every page, else a part or what is no range.
+fn range(random: &mut Random) -> (u32, u32) {
+    match random.below(3) {
+        0 => (0, 1),
+        1 => (random.below(PAGES as u32 + 1), 10 + random.below(6)),
+        _ => (random.below(3), random.below(18)),
     }
 }
 
@@ -61,19 +78,23 @@ fn make(board: &mut Board, name: &str, numbers: &Numbers) {
     (call(name).own)(board, &mut [0; MEMORY], numbers, &mut Out::default());
 }
 
+fn create(board: &mut Board, space: u32) {
+    make(board, "create", &[space, 0, 0, 0, 0, 0, 0]);
+}
+
 /// Up to 12 translations that are asked for, so that the cache has some entries, or is full.
 fn fill_cache(random: &mut Random, board: &mut Board) {
     for _ in 0..1 + random.below(12) {
         let [space, address, ..] = request(random, "translate", SPACES as u32);
-        (1..=7).for_each(|rights| make(board, "translate", &[space, address, rights, 0, 0]));
+        (1..=7).for_each(|rights| make(board, "translate", &[space, address, rights, 0, 0, 0, 0]));
     }
-    make(board, "translate", &[0, random.below(MEMORY as u32), 4, 0, 0]);
+    make(board, "translate", &[0, random.below(MEMORY as u32), 4, 0, 0, 0, 0]);
 }
 
 /// A board whose every line has one page: only space 0 holds pages.
 pub fn flat(random: &mut Random) -> Board {
     let mut board = Board::start();
-    (2..SPACES as u32).filter(|_| random.below(2) == 0).for_each(|space| make(&mut board, "create", &[space, 0, 0, 0, 0]));
+    (2..SPACES as u32).filter(|_| random.below(2) == 0).for_each(|space| create(&mut board, space));
     fill_cache(random, &mut board);
     board
 }
@@ -96,11 +117,22 @@ pub fn deep(random: &mut Random) -> Board {
     board
 }
 
+/// A board whose space 1 holds every page of space 0, at another page number; all other spaces are live and empty.
+pub fn lent(random: &mut Random) -> Board {
+    let mut board = Board::start();
+    (2..SPACES as u32).for_each(|space| create(&mut board, space));
+    for (page, at) in random.shuffled::<PAGES>().into_iter().enumerate() {
+        board.set_slot(PAGES + page, Slot { link: Link::Page(0, at as u8), rights: 7 });
+    }
+    fill_cache(random, &mut board);
+    board
+}
+
 /// A board as it stands after a while: all spaces live but one, and pages lent on from space to space.
 pub fn mixed(random: &mut Random) -> Board {
     let mut board = Board::start();
     let idle = 2 + random.below(SPACES as u32 - 2);
-    (2..SPACES as u32).filter(|&s| s != idle).for_each(|space| make(&mut board, "create", &[space, 0, 0, 0, 0]));
+    (2..SPACES as u32).filter(|&s| s != idle).for_each(|space| create(&mut board, space));
     for turn in 0..400 {
         let name =
             ["map", "map", "map", "map", "grant", "unmap", "flush"][if turn < 200 { 0 } else { random.below(7) as usize }];

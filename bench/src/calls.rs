@@ -2,10 +2,11 @@
 use crate::library::{counting, proved};
 use crate::own::Board;
 use crate::plain::Refusal;
+use crate::ranges::Done;
 use crate::{image_plain, own};
 
 /// The numbers of a request, in the order of include/lend.h.
-pub type Numbers = [u32; 5];
+pub type Numbers = [u32; 7];
 /// The out fields of an answer.
 pub type Out = [u32; 4];
 /// A call over an image, and one over a board of plain Rust. The memory is for load and store.
@@ -35,6 +36,10 @@ macro_rules! each_call {
         $make!(store, |b, memory, n, out| {
             crate::calls::answer(crate::plain::store(b, memory, n[0], n[1], n[2] as u8).map(|()| 0), out)
         });
+        $make!(unmap_range, |b, _memory, n, out| crate::calls::range_answer(crate::ranges::unmap_range(b, n), out));
+        $make!(flush_range, |b, _memory, n, out| crate::calls::range_answer(crate::ranges::flush_range(b, n), out));
+        $make!(map_range, |b, _memory, n, out| crate::calls::range_answer(crate::ranges::map_range(b, n), out));
+        $make!(grant_range, |b, _memory, n, out| crate::calls::range_answer(crate::ranges::grant_range(b, n), out));
     };
 }
 pub(crate) use each_call;
@@ -45,6 +50,17 @@ pub fn answer(answer: Result<u32, Refusal>, out: &mut Out) -> u32 {
         Ok(first) => {
             out[0] = first;
             0
+        }
+        Err(refusal) => refusal as u32,
+    }
+}
+
+/// The number of a range call's answer, its three fields put where they belong.
+pub fn range_answer(answer: Result<Done, Refusal>, out: &mut Out) -> u32 {
+    match answer {
+        Ok(done) => {
+            out[..3].copy_from_slice(&[done.pages, done.offset, done.emptied]);
+            done.number
         }
         Err(refusal) => refusal as u32,
     }
@@ -64,7 +80,7 @@ pub struct Call {
 macro_rules! table {
     ($($name:ident)*) => {
         /// Every call.
-        pub const CALLS: [Call; 11] = [$(Call {
+        pub const CALLS: [Call; 15] = [$(Call {
             name: stringify!($name),
             library: proved::$name,
             counting: counting::$name,
@@ -73,7 +89,7 @@ macro_rules! table {
         }),*];
     };
 }
-table!(start sound create delete unmap flush map grant translate load store);
+table!(start sound create delete unmap flush map grant translate load store unmap_range flush_range map_range grant_range);
 
 /// The call of that name.
 pub fn call(name: &str) -> Call {

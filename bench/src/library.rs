@@ -65,6 +65,52 @@ macro_rules! library {
                     value: u8,
                     out: *mut u32,
                 ) -> u32;
+                #[link_name = concat!($prefix, "lend_entry_unmap_range")]
+                fn c_unmap_range(
+                    image: *mut u8,
+                    length: usize,
+                    space: u32,
+                    base: u32,
+                    size: u32,
+                    rights: u32,
+                    out: *mut u32,
+                ) -> u32;
+                #[link_name = concat!($prefix, "lend_entry_flush_range")]
+                fn c_flush_range(
+                    image: *mut u8,
+                    length: usize,
+                    space: u32,
+                    base: u32,
+                    size: u32,
+                    rights: u32,
+                    out: *mut u32,
+                ) -> u32;
+                #[link_name = concat!($prefix, "lend_entry_map_range")]
+                fn c_map_range(
+                    image: *mut u8,
+                    length: usize,
+                    from: u32,
+                    base: u32,
+                    size: u32,
+                    to: u32,
+                    at_base: u32,
+                    at_size: u32,
+                    rights: u32,
+                    out: *mut u32,
+                ) -> u32;
+                #[link_name = concat!($prefix, "lend_entry_grant_range")]
+                fn c_grant_range(
+                    image: *mut u8,
+                    length: usize,
+                    from: u32,
+                    base: u32,
+                    size: u32,
+                    to: u32,
+                    at_base: u32,
+                    at_size: u32,
+                    rights: u32,
+                    out: *mut u32,
+                ) -> u32;
             }
 
             pub fn start(i: &mut [u8], _: &mut [u8], _: &Numbers, out: &mut Out) -> u32 {
@@ -131,6 +177,32 @@ macro_rules! library {
                         n[2] as u8,
                         out.as_mut_ptr(),
                     )
+                }
+            }
+
+            pub fn unmap_range(i: &mut [u8], _: &mut [u8], n: &Numbers, out: &mut Out) -> u32 {
+                // SAFETY: see above.
+                unsafe { c_unmap_range(i.as_mut_ptr(), i.len(), n[0], n[1], n[2], n[3], out.as_mut_ptr()) }
+            }
+
+            pub fn flush_range(i: &mut [u8], _: &mut [u8], n: &Numbers, out: &mut Out) -> u32 {
+                // SAFETY: see above.
+                unsafe { c_flush_range(i.as_mut_ptr(), i.len(), n[0], n[1], n[2], n[3], out.as_mut_ptr()) }
+            }
+
+            pub fn map_range(i: &mut [u8], _: &mut [u8], n: &Numbers, out: &mut Out) -> u32 {
+                let [from, base, size, to, at_base, at_size, rights] = *n;
+                // SAFETY: see above.
+                unsafe {
+                    c_map_range(i.as_mut_ptr(), i.len(), from, base, size, to, at_base, at_size, rights, out.as_mut_ptr())
+                }
+            }
+
+            pub fn grant_range(i: &mut [u8], _: &mut [u8], n: &Numbers, out: &mut Out) -> u32 {
+                let [from, base, size, to, at_base, at_size, rights] = *n;
+                // SAFETY: see above.
+                unsafe {
+                    c_grant_range(i.as_mut_ptr(), i.len(), from, base, size, to, at_base, at_size, rights, out.as_mut_ptr())
                 }
             }
         }

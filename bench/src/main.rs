@@ -7,11 +7,12 @@ mod image_plain;
 mod library;
 mod own;
 mod plain;
+mod ranges;
 mod script;
 mod stack;
 mod time;
 
-use boards::{deep, flat, mixed, Random, Ring};
+use boards::{deep, flat, lent, mixed, Random, Ring};
 use calls::{call, Call, Out, CALLS};
 use own::Board;
 use std::io::Read as _;
@@ -19,7 +20,7 @@ use std::io::Read as _;
 /// A line of the table: what it says, the call, the boards, and which answers are wanted.
 type Row = (&'static str, &'static str, fn(&mut Random) -> Board, fn(u32, &Out) -> bool);
 
-const ROWS: [Row; 9] = [
+const ROWS: [Row; 14] = [
     ("sound, lines of 1 page", "sound", flat, |number, _| number == 1),
     ("sound, lines to 8 pages", "sound", deep, |number, _| number == 1),
     ("create", "create", mixed, |number, _| number == 0),
@@ -29,7 +30,17 @@ const ROWS: [Row; 9] = [
     ("grant", "grant", mixed, |number, _| number == 0),
     ("translate, hit", "translate", mixed, |number, out| number == 0 && out[1] == 1),
     ("translate, miss", "translate", mixed, |number, out| number == 0 && out[1] == 0),
+    ("unmap of all pages, lines of 1 page", "unmap_range", flat, all_done),
+    ("unmap of all pages, lines to 8 pages", "unmap_range", deep, |number, out| all_done(number, out) && out[2] > 0),
+    ("flush of all pages, lines to 8 pages", "flush_range", deep, |number, out| all_done(number, out) && out[2] > 0),
+    ("map of all pages", "map_range", lent, all_done),
+    ("grant of all pages", "grant_range", lent, all_done),
 ];
+
+/// A range call that was done to all 32 pages.
+fn all_done(number: u32, out: &Out) -> bool {
+    number == 0 && out[0] == 32
+}
 
 /// The options of the command line.
 struct Options {
@@ -78,9 +89,12 @@ fn print_space(random: &mut Random) {
     println!("| call | stack: library | plain Rust, image | plain Rust, struct | library: copies of a table | bytes copied |");
     println!("|---|---:|---:|---:|---:|---:|");
     for call in &CALLS {
-        let wanted: fn(u32, &Out) -> bool =
-            if call.name == "sound" { |number, _| number == 1 } else { |number, _| number == 0 };
-        let ring = Ring::new(random, call.name, mixed, wanted);
+        let (boards, wanted): (fn(&mut Random) -> Board, fn(u32, &Out) -> bool) = match call.name {
+            "sound" => (mixed, |number, _| number == 1),
+            name if name.ends_with("_range") => (lent, all_done),
+            _ => (mixed, |number, _| number == 0),
+        };
+        let ring = Ring::new(random, call.name, boards, wanted);
         let [library, image, own] = stack::bytes(call, &ring);
         let [tables, bytes] = copies::copies(call, &ring);
         println!("| {} | {library} | {image} | {own} | {tables} | {bytes} |", call.name);

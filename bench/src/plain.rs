@@ -58,6 +58,8 @@ pub enum Refusal {
     NotLive = 4,
     Page = 5,
     Rights = 6,
+    Range = 7,
+    RangesDiffer = 8,
     Pool = 9,
     Live = 10,
     Empty = 11,
@@ -86,7 +88,7 @@ pub struct Translation {
     pub hit: bool,
 }
 
-fn refuse_if(holds: bool, refusal: Refusal) -> Result<(), Refusal> {
+pub fn refuse_if(holds: bool, refusal: Refusal) -> Result<(), Refusal> {
     if holds {
         Err(refusal)
     } else {
@@ -187,11 +189,11 @@ pub fn sound<T: Tables>(b: &T) -> bool {
 
 // ---- checks
 
-fn check_sound<T: Tables>(b: &T) -> Result<(), Refusal> {
+pub fn check_sound<T: Tables>(b: &T) -> Result<(), Refusal> {
     refuse_if(!sound(b), Refusal::Unsound)
 }
 
-fn check_spaces<T: Tables>(b: &T, spaces: &[u32]) -> Result<(), Refusal> {
+pub fn check_spaces<T: Tables>(b: &T, spaces: &[u32]) -> Result<(), Refusal> {
     refuse_if(spaces.iter().any(|&s| s as usize >= SPACES), Refusal::Space)?;
     refuse_if(spaces.iter().any(|&s| !b.live(s as usize)), Refusal::NotLive)
 }
@@ -200,7 +202,7 @@ fn check_pages(pages: &[u32]) -> Result<(), Refusal> {
     refuse_if(pages.iter().any(|&p| p as usize >= PAGES), Refusal::Page)
 }
 
-fn check_rights(rights: u32) -> Result<(), Refusal> {
+pub fn check_rights(rights: u32) -> Result<(), Refusal> {
     refuse_if(rights == 0 || rights > ALL as u32, Refusal::Rights)
 }
 
@@ -295,6 +297,11 @@ pub fn delete<T: Tables>(b: &mut T, space: u32) -> Result<u32, Refusal> {
 
 pub fn unmap<T: Tables>(b: &mut T, space: u32, page: u32, rights: u32) -> Result<u32, Refusal> {
     check_sound(b)?;
+    unmap_sound(b, space, page, rights)
+}
+
+/// The same on a board that is known to be sound.
+pub fn unmap_sound<T: Tables>(b: &mut T, space: u32, page: u32, rights: u32) -> Result<u32, Refusal> {
     check_spaces(b, &[space])?;
     check_pages(&[page])?;
     check_rights(rights)?;
@@ -303,6 +310,11 @@ pub fn unmap<T: Tables>(b: &mut T, space: u32, page: u32, rights: u32) -> Result
 
 pub fn flush<T: Tables>(b: &mut T, space: u32, page: u32, rights: u32) -> Result<u32, Refusal> {
     check_sound(b)?;
+    flush_sound(b, space, page, rights)
+}
+
+/// The same on a board that is known to be sound.
+pub fn flush_sound<T: Tables>(b: &mut T, space: u32, page: u32, rights: u32) -> Result<u32, Refusal> {
     check_spaces(b, &[space])?;
     check_pages(&[page])?;
     check_rights(rights)?;
@@ -336,6 +348,11 @@ fn relink<T: Tables>(b: &mut T, source: usize, taker: usize, rights: u32) -> u32
 
 pub fn map<T: Tables>(b: &mut T, from: u32, page: u32, to: u32, at: u32, rights: u32) -> Result<u32, Refusal> {
     check_sound(b)?;
+    map_sound(b, from, page, to, at, rights)
+}
+
+/// The same on a board that is known to be sound.
+pub fn map_sound<T: Tables>(b: &mut T, from: u32, page: u32, to: u32, at: u32, rights: u32) -> Result<u32, Refusal> {
     check_spaces(b, &[from, to])?;
     check_pages(&[page, at])?;
     check_rights(rights)?;
@@ -348,6 +365,11 @@ pub fn map<T: Tables>(b: &mut T, from: u32, page: u32, to: u32, at: u32, rights:
 
 pub fn grant<T: Tables>(b: &mut T, from: u32, page: u32, to: u32, at: u32, rights: u32) -> Result<u32, Refusal> {
     check_sound(b)?;
+    grant_sound(b, from, page, to, at, rights)
+}
+
+/// The same on a board that is known to be sound.
+pub fn grant_sound<T: Tables>(b: &mut T, from: u32, page: u32, to: u32, at: u32, rights: u32) -> Result<u32, Refusal> {
     check_spaces(b, &[from, to])?;
     check_pages(&[page, at])?;
     check_rights(rights)?;
