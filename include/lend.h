@@ -43,33 +43,52 @@ enum lend_right { LEND_EXECUTE = 1, LEND_WRITE = 2, LEND_READ = 4, LEND_ALL = 7 
 
 #define LEND_PAGE_BYTES 1024
 
-/* ---- the entry model: 8 spaces, 32 pages in each, 32 frames, 8 cache places -------------------------------------------------- */
+/* ---- two models, one set of rules -------------------------------------------------------------------------------------------- */
+
+/* A board of the entry model is lent to the functions lend_entry_NAME, one of the premium model to lend_premium_NAME. They do the same
+ * thing at the same call; only the sizes differ.
+ *
+ *                            entry    premium
+ *   spaces                       8         16    LEND_ENTRY_SPACES, LEND_PREMIUM_SPACES, and so on
+ *   pages in each, frames       32         64    .._PAGES
+ *   places of the cache          8         16    .._PLACES
+ *   bytes of memory         32,768     65,536    .._MEMORY
+ *   bytes of an image        1,065      4,177    .._IMAGE
+ *
+ * The image of a board, byte by byte:
+ *
+ *   slot (s, p)   4 bytes at SLOT + 4 * (PAGES * s + p): kind, two numbers, rights
+ *                   kind 0: no link, the two numbers 0         (an empty page; rights are 0 on a sound board)
+ *                   kind 1: a frame: its number, then 0
+ *                   kind 2: a page: its space, its page
+ *   live          one byte for each space, from LIVE: 0 or 1
+ *   cache place   4 bytes for each, from CACHE: space, page, frame, rights; all 0 when it is empty
+ *   next place    one byte, at NEXT
+ *
+ * A kind above 2, a live byte above 1 and an unused byte that is not 0 are no board's image. Later fields are appended.
+ *
+ * Each call but sound answers one of the numbers. An image length other than the model's is answered with LEND_UNSOUND, and by
+ * sound with 0.
+ *
+ * A range is a base and a size: 0 and 0 is no page, 0 and 1 is every page of a space, and a size from 10 to 15 (premium: to 16) is a
+ * part of 2^(size - 10) pages from the base rounded down to a multiple of that. All else is invalid. In a call over ranges the numbers
+ * LEND_UNSOUND, LEND_SPACE, LEND_NOT_LIVE, LEND_RIGHTS, LEND_RANGE and LEND_RANGES_DIFFER refuse the whole call: nothing has changed,
+ * and every out field is 0. Any other number is that of the first page that was refused (0: none was); such pages are passed over, and
+ * what was done to the others stands.
+ */
+
+/* ---- the entry model --------------------------------------------------------------------------------------------------------- */
 
 #define LEND_ENTRY_SPACES 8
 #define LEND_ENTRY_PAGES 32
 #define LEND_ENTRY_PLACES 8
 #define LEND_ENTRY_MEMORY (LEND_PAGE_BYTES * LEND_ENTRY_PAGES)
 
-/* The image of a board, byte by byte. Numbers wider than a byte are little-endian. Later fields are appended.
- *
- *   slot (s, p)   4 bytes at LEND_SLOT + 4 * (pages * s + p): kind, two numbers, rights
- *                   kind 0: no link, the two numbers 0         (an empty page; rights are 0 on a sound board)
- *                   kind 1: a frame: its number, then 0
- *                   kind 2: a page: its space, its page
- *   live          one byte for each space: 0 or 1
- *   cache place   4 bytes for each: space, page, frame, rights; all 0 when it is empty
- *   next place    one byte
- *
- * A kind above 2, a live byte above 1 and an unused byte that is not 0 are no board's image.
- */
 #define LEND_ENTRY_SLOT 0
 #define LEND_ENTRY_LIVE (LEND_ENTRY_SLOT + 4 * LEND_ENTRY_SPACES * LEND_ENTRY_PAGES)
 #define LEND_ENTRY_CACHE (LEND_ENTRY_LIVE + LEND_ENTRY_SPACES)
 #define LEND_ENTRY_NEXT (LEND_ENTRY_CACHE + 4 * LEND_ENTRY_PLACES)
-#define LEND_ENTRY_IMAGE (LEND_ENTRY_NEXT + 1) /* 1,065 bytes */
-
-/* Each call but sound answers one of the numbers. An image length other than LEND_ENTRY_IMAGE is answered with LEND_UNSOUND, and
- * by sound with 0. */
+#define LEND_ENTRY_IMAGE (LEND_ENTRY_NEXT + 1)
 
 /* Writes the start board over any bytes of the right length. Every out field is 0. */
 uint32_t lend_entry_start(uint8_t *image, size_t image_length, uint32_t out[4]);
@@ -83,40 +102,84 @@ uint32_t lend_entry_delete(uint8_t *image, size_t image_length, uint32_t space, 
 uint32_t lend_entry_unmap(uint8_t *image, size_t image_length, uint32_t space, uint32_t page, uint32_t rights, uint32_t out[4]);
 uint32_t lend_entry_flush(uint8_t *image, size_t image_length, uint32_t space, uint32_t page, uint32_t rights, uint32_t out[4]);
 uint32_t lend_entry_map(uint8_t *image, size_t image_length, uint32_t from, uint32_t page, uint32_t to, uint32_t at,
-                        uint32_t rights, uint32_t out[4]);
+    uint32_t rights, uint32_t out[4]);
 uint32_t lend_entry_grant(uint8_t *image, size_t image_length, uint32_t from, uint32_t page, uint32_t to, uint32_t at,
-                          uint32_t rights, uint32_t out[4]);
+    uint32_t rights, uint32_t out[4]);
 
 /* out[0]: the physical address. out[1]: 1 where the page was in the cache. */
 uint32_t lend_entry_translate(uint8_t *image, size_t image_length, uint32_t space, uint32_t address, uint32_t rights,
-                              uint32_t out[4]);
+    uint32_t out[4]);
 
 /* out[0]: the byte. Asks for the right to read. */
 uint32_t lend_entry_load(uint8_t *image, size_t image_length, uint8_t *memory, size_t memory_length, uint32_t space,
-                         uint32_t address, uint32_t out[4]);
+    uint32_t address, uint32_t out[4]);
 
 /* Changes one byte of memory. Asks for the right to write. Every out field is 0. */
 uint32_t lend_entry_store(uint8_t *image, size_t image_length, uint8_t *memory, size_t memory_length, uint32_t space,
-                          uint32_t address, uint8_t value, uint32_t out[4]);
+    uint32_t address, uint8_t value, uint32_t out[4]);
 
-/* Calls over ranges. A range is a base and a size: 0 and 0 is no page, 0 and 1 is every page of a space, and a size from 10 to 15 is
- * a part of 2^(size - 10) pages from the base rounded down to a multiple of that. All else is invalid.
- *
- * The numbers LEND_UNSOUND, LEND_SPACE, LEND_NOT_LIVE, LEND_RIGHTS, LEND_RANGE and LEND_RANGES_DIFFER refuse the whole call: nothing
- * has changed, and every out field is 0. Any other number is that of the first page that was refused (0: none was); such pages are
- * passed over, and what was done to the others stands.
- *
- * out[0]: how many pages were done. out[1]: the offset of the first refused page, LEND_ENTRY_PAGES where there is none. out[2]: how
- * many pages were held before the whole call and are empty after it.
- */
+/* Over ranges. out[0]: how many pages were done. out[1]: the offset of the first refused page, LEND_ENTRY_PAGES where there is none.
+ * out[2]: how many pages were held before the whole call and are empty after it. */
 uint32_t lend_entry_unmap_range(uint8_t *image, size_t image_length, uint32_t space, uint32_t base, uint32_t size,
-                                uint32_t rights, uint32_t out[4]);
+    uint32_t rights, uint32_t out[4]);
 uint32_t lend_entry_flush_range(uint8_t *image, size_t image_length, uint32_t space, uint32_t base, uint32_t size,
-                                uint32_t rights, uint32_t out[4]);
+    uint32_t rights, uint32_t out[4]);
 uint32_t lend_entry_map_range(uint8_t *image, size_t image_length, uint32_t from, uint32_t base, uint32_t size, uint32_t to,
-                              uint32_t at_base, uint32_t at_size, uint32_t rights, uint32_t out[4]);
+    uint32_t at_base, uint32_t at_size, uint32_t rights, uint32_t out[4]);
 uint32_t lend_entry_grant_range(uint8_t *image, size_t image_length, uint32_t from, uint32_t base, uint32_t size, uint32_t to,
-                                uint32_t at_base, uint32_t at_size, uint32_t rights, uint32_t out[4]);
+    uint32_t at_base, uint32_t at_size, uint32_t rights, uint32_t out[4]);
+
+/* ---- the premium model: made from the entry part by tools/models.py ------------------------------------------------------ */
+
+#define LEND_PREMIUM_SPACES 16
+#define LEND_PREMIUM_PAGES 64
+#define LEND_PREMIUM_PLACES 16
+#define LEND_PREMIUM_MEMORY (LEND_PAGE_BYTES * LEND_PREMIUM_PAGES)
+
+#define LEND_PREMIUM_SLOT 0
+#define LEND_PREMIUM_LIVE (LEND_PREMIUM_SLOT + 4 * LEND_PREMIUM_SPACES * LEND_PREMIUM_PAGES)
+#define LEND_PREMIUM_CACHE (LEND_PREMIUM_LIVE + LEND_PREMIUM_SPACES)
+#define LEND_PREMIUM_NEXT (LEND_PREMIUM_CACHE + 4 * LEND_PREMIUM_PLACES)
+#define LEND_PREMIUM_IMAGE (LEND_PREMIUM_NEXT + 1)
+
+/* Writes the start board over any bytes of the right length. Every out field is 0. */
+uint32_t lend_premium_start(uint8_t *image, size_t image_length, uint32_t out[4]);
+
+/* 1 where the image is a sound board's, else 0. */
+uint32_t lend_premium_sound(uint8_t *image, size_t image_length);
+
+/* out[0]: how many pages were held before the call and are empty after it. The other fields are 0. */
+uint32_t lend_premium_create(uint8_t *image, size_t image_length, uint32_t space, uint32_t out[4]);
+uint32_t lend_premium_delete(uint8_t *image, size_t image_length, uint32_t space, uint32_t out[4]);
+uint32_t lend_premium_unmap(uint8_t *image, size_t image_length, uint32_t space, uint32_t page, uint32_t rights, uint32_t out[4]);
+uint32_t lend_premium_flush(uint8_t *image, size_t image_length, uint32_t space, uint32_t page, uint32_t rights, uint32_t out[4]);
+uint32_t lend_premium_map(uint8_t *image, size_t image_length, uint32_t from, uint32_t page, uint32_t to, uint32_t at,
+    uint32_t rights, uint32_t out[4]);
+uint32_t lend_premium_grant(uint8_t *image, size_t image_length, uint32_t from, uint32_t page, uint32_t to, uint32_t at,
+    uint32_t rights, uint32_t out[4]);
+
+/* out[0]: the physical address. out[1]: 1 where the page was in the cache. */
+uint32_t lend_premium_translate(uint8_t *image, size_t image_length, uint32_t space, uint32_t address, uint32_t rights,
+    uint32_t out[4]);
+
+/* out[0]: the byte. Asks for the right to read. */
+uint32_t lend_premium_load(uint8_t *image, size_t image_length, uint8_t *memory, size_t memory_length, uint32_t space,
+    uint32_t address, uint32_t out[4]);
+
+/* Changes one byte of memory. Asks for the right to write. Every out field is 0. */
+uint32_t lend_premium_store(uint8_t *image, size_t image_length, uint8_t *memory, size_t memory_length, uint32_t space,
+    uint32_t address, uint8_t value, uint32_t out[4]);
+
+/* Over ranges. out[0]: how many pages were done. out[1]: the offset of the first refused page, LEND_PREMIUM_PAGES where there is none.
+ * out[2]: how many pages were held before the whole call and are empty after it. */
+uint32_t lend_premium_unmap_range(uint8_t *image, size_t image_length, uint32_t space, uint32_t base, uint32_t size,
+    uint32_t rights, uint32_t out[4]);
+uint32_t lend_premium_flush_range(uint8_t *image, size_t image_length, uint32_t space, uint32_t base, uint32_t size,
+    uint32_t rights, uint32_t out[4]);
+uint32_t lend_premium_map_range(uint8_t *image, size_t image_length, uint32_t from, uint32_t base, uint32_t size, uint32_t to,
+    uint32_t at_base, uint32_t at_size, uint32_t rights, uint32_t out[4]);
+uint32_t lend_premium_grant_range(uint8_t *image, size_t image_length, uint32_t from, uint32_t base, uint32_t size, uint32_t to,
+    uint32_t at_base, uint32_t at_size, uint32_t rights, uint32_t out[4]);
 
 #ifdef __cplusplus
 }

@@ -1,0 +1,56 @@
+-- Made by tools/models.py from crates/entry_access/proofs/translate/translate/Proof.antt: change that file.
+-- `translate` meets its contract: what the number 0 has shown makes the look at the page that of the rules.
+use Rattle.premium_access.proofs as own
+use native.Mathlib.Omega.{arith}
+use borrow.Author.Needs.{needs}
+use Rattle.lend_code.proofs.Access.{Accessible, translate-refused, translate-shows, translate-done}
+use Rattle.premium.specs.Sizes.{sizes}
+use Rattle.premium.specs.Board.{tables}
+use Rattle.premium_access.specs as spec
+use spec.Answers.{seen}
+use own.translate.translate.Statement.{statement}
+use own.translate.translate.Tie as tie
+
+access-number-requires : tie.Need-access-number-requires
+access-number-requires c κs = search needs
+
+returns : tie.Need-returns
+returns c = translate-refused sizes _ _ _ _ _ (c .before .access-number .ensures) (c .if1 .taken)
+
+-- what the number 0 has shown
+shown : (c : tie.Else1) → Accessible sizes (tables (c .before .before .args .b)) (c .before .before .args .space) (c .before .before .args .address)
+shown c = translate-shows sizes _ _ _ _ _ (c .before .access-number .ensures) (c .if1 .left)
+
+cast-look : tie.Need-cast-look
+cast-look c = omega (arith, shown c .space-in)
+
+cast-look-2 : tie.Need-cast-look-2
+cast-look-2 c = omega (arith, shown c .page-in)
+
+look-requires : tie.Need-look-requires
+look-requires c κs = search needs
+
+byte-at-requires : tie.Need-byte-at-requires
+byte-at-requires c κs = search needs
+
+cast-t15 : tie.Need-cast-t15
+cast-t15 c = search needs
+
+returns-2 : tie.Need-returns-2
+returns-2 c =
+    let at-look = c .before .before in
+    let accepted = at-look .before in
+    translate-done sizes _ _ _ _ _ (accepted .before .access-number .ensures) (accepted .if1 .left) (seen (at-look .look .result)) (c .byte-at .result) (at-look .look .ensures) (c .byte-at .ensures)
+
+pub translate-spec : {M : Type 1} → statement M
+translate-spec =
+    tie.close
+    (tie.spec
+    access-number-requires
+    returns
+    cast-look
+    cast-look-2
+    look-requires
+    byte-at-requires
+    cast-t15
+    returns-2)

@@ -1,0 +1,82 @@
+-- Made by tools/models.py from crates/entry_calls/proofs/flush/flush_page/Proof.antt: change that file.
+-- `flush_page` meets its contract: what the number 0 has shown makes the withdrawal that of the rules.
+use Rattle.premium_calls.proofs as own
+use Prim.Native.Nat.{ℕ}
+use mathlib.Core.Path.{_≡_, ap, _∙_}
+use mathlib.Core.Bool.{Bool}
+use mathlib.Core.List.{List}
+use native.Mathlib.Omega.{arith}
+use Rattle.lend.specs.Tables.{alone}
+use Rattle.lend.specs.Calls.{Flush, number}
+use Rattle.lend_code.specs.Inner.{lineHas, withdrawnOf}
+use Rattle.lend_code.proofs.Calls.{call-refused, page-checked, flush-number, flush-shows, flush-done}
+use Rattle.premium.specs.Sizes.{sizes}
+use Rattle.premium.specs.Board.{tables}
+use borrow.Author.Needs.{needs}
+use own.flush.flush_page.Statement.{statement}
+use own.flush.flush_page.Tie as tie
+
+pick-requires : tie.Need-pick-requires
+pick-requires c κs = search needs
+
+page-number-requires : tie.Need-page-number-requires
+page-number-requires c κs = search needs
+
+refused-requires : tie.Need-refused-requires
+refused-requires c κs = search needs
+
+-- the number is the one of the rules
+numbered : (c : tie.After-page-number)
+    → let a = c .before .before .before .args in
+    c .page-number .result ≡ number sizes (alone (tables (a .b))) (Flush (a .space) (a .page) (a .rights))
+numbered c =
+    let at-pick = c .before .before in
+    let a = at-pick .before .args in
+    c .page-number .ensures
+    ∙ (page-checked sizes (tables (a .b)) (at-pick .before .pre) (a .space) (a .page) (a .rights) (at-pick .pick .result)
+    ∙ flush-number sizes (tables (a .b)) (a .space) (a .page) (a .rights) (at-pick .pick .result) (at-pick .pick .ensures))
+
+returns : tie.Need-returns
+returns c = c .refused .ensures ∙ call-refused sizes _ _ _ (numbered (c .before .before)) (c .before .if1 .taken)
+
+mul-y : tie.Need-mul-y
+mul-y c = search needs
+
+add-y : tie.Need-add-y
+add-y c = search needs
+
+only-requires : tie.Need-only-requires
+only-requires c κs = search needs
+
+line-has-requires : tie.Need-line-has-requires
+line-has-requires c κs = search needs
+
+cast-withdrawn : tie.Need-cast-withdrawn
+cast-withdrawn c = omega (arith, flush-shows sizes _ _ _ _ _ (numbered (c .before .before .before .before)) (c .before .before .before .if1 .left) .known-rights)
+
+withdrawn-requires : tie.Need-withdrawn-requires
+withdrawn-requires c κs = search needs
+
+returns-2 : tie.Need-returns-2
+returns-2 c =
+    let at-number = c .before .before .before .before .before in
+    let a = at-number .before .before .before .args in
+    c .withdrawn .ensures
+    ∙ (ap (λ (l : List Bool). withdrawnOf sizes (tables (a .b)) l (a .rights)) (c .before .line-has .ensures ∙ ap (lineHas sizes (a .b .slots)) (c .before .before .only .ensures))
+    ∙ flush-done sizes _ _ _ _ _ (numbered at-number) (c .before .before .before .before .if1 .left))
+
+pub flush-page-spec : {M : Type 1} → statement M
+flush-page-spec =
+    tie.close
+    (tie.spec
+    pick-requires
+    page-number-requires
+    refused-requires
+    returns
+    mul-y
+    add-y
+    only-requires
+    line-has-requires
+    cast-withdrawn
+    withdrawn-requires
+    returns-2)

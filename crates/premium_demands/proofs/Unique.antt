@@ -1,0 +1,50 @@
+-- Made by tools/models.py from crates/entry_demands/proofs/Unique.antt: change that file.
+-- Each view of a result that this model's contracts use loses nothing, so each contract admits one result.
+use Prim.Native.Nat.{ℕ}
+use mathlib.Core.Path.{_≡_, sym, ap, _∙_}
+use mathlib.Core.List.{List}
+use Rattle.lend.specs.Tables.{Tables}
+use Rattle.lend.specs.Calls.{Outcome}
+use Rattle.lend.specs.Ranges as rules
+use Rattle.lend.specs.Ranges.{RangeOutcome}
+use Rattle.lend_basics.proofs.Unique.{one-result}
+use Rattle.premium.specs.declared.range.Range.{Range}
+use Rattle.premium.specs.declared.Board.{Board}
+use Rattle.premium.specs.Board.{tables, boardOf, boardOf-tables}
+use Rattle.premium.specs.Range.{rangeMeant, rangeBack, rangeBack-meant}
+use Rattle.premium_calls.specs.declared.Answer.{Answer}
+use Rattle.premium_calls.specs.declared.RangeAnswer.{RangeAnswer}
+use Rattle.premium_calls.specs.Answer.{outcome, answerOf, answerOf-outcome}
+use Rattle.premium_calls.specs.RangeAnswer.{rangeOutcome, rangeAnswerOf, rangeAnswerOf-rangeOutcome}
+use Rattle.premium_access.specs.declared.Translated.{Translated}
+use Rattle.premium_access.specs.declared.Loaded.{Loaded}
+use Rattle.premium_access.specs.declared.Stored.{Stored}
+use Rattle.premium_access.specs.Answers.{translated, translatedOf, translatedOf-translated, loaded, loadedOf, loadedOf-loaded, stored, storedOf}
+
+-- a function whose contract is `tables r ≡ ..`
+pub one-board : {meaning : Tables} {r s : Board} → tables r ≡ meaning → tables s ≡ meaning → r ≡ s
+one-board = one-result tables boardOf boardOf-tables
+
+-- a call whose contract is `outcome r ≡ ..`
+pub one-answer : {meaning : Outcome} {r s : Answer} → outcome r ≡ meaning → outcome s ≡ meaning → r ≡ s
+one-answer = one-result outcome answerOf answerOf-outcome
+
+-- a call over a range, whose contract is `rangeOutcome r ≡ ..`
+pub one-range-answer : {meaning : RangeOutcome} {r s : RangeAnswer} → rangeOutcome r ≡ meaning → rangeOutcome s ≡ meaning → r ≡ s
+one-range-answer = one-result rangeOutcome rangeAnswerOf rangeAnswerOf-rangeOutcome
+
+-- and the range that a base and a size name
+pub one-range : {meaning : rules.Range} {r s : Range} → rangeMeant r ≡ meaning → rangeMeant s ≡ meaning → r ≡ s
+one-range = one-result rangeMeant rangeBack rangeBack-meant
+
+-- a call whose contract is `translated r ≡ ..`
+pub one-translation : {meaning : Outcome} {r s : Translated} → translated r ≡ meaning → translated s ≡ meaning → r ≡ s
+one-translation = one-result translated translatedOf translatedOf-translated
+
+-- load: the memory is lent for reading and is the same
+pub one-load : {meaning : Outcome} {r s : Loaded} {m : List ℕ} → loaded r m ≡ meaning → loaded s m ≡ meaning → r ≡ s
+one-load {m = m} = one-result (λ x. loaded x m) loadedOf (λ x. loadedOf-loaded x m)
+
+-- store: the answer, and every byte of memory as the call leaves it
+pub one-store : {meaning : Outcome} {r s : Stored} {m n : List ℕ} → stored r m ≡ meaning → stored s n ≡ meaning → (r ≡ s) × (m ≡ n)
+one-store hr hs = (ap storedOf (hr ∙ sym hs), ap (λ (o : Outcome). o .state .memory) (hr ∙ sym hs))

@@ -1,0 +1,35 @@
+// Made by tools/models.py from crates/entry_script/src/lines.rt: change that file.
+// The lines of a script, one after the other, from the start board to the listing.
+use crate::judge::line_turn;
+use crate::listing::put_ending;
+use calls::start::start;
+use premium_calls as calls;
+use script::say;
+use text::line::line_end;
+ghost use Prim.Native.Nat.{_≤_};
+ghost use lib.ListN.{length};
+ghost use Rattle.text.specs.Write.{Wrote};
+ghost use Rattle.script.specs.Script.{inputLimit, outputOf};
+ghost use Rattle.premium.specs.Sizes.{sizes};
+
+// Runs all lines and lists the pages. An input within the limit has no more lines than can be counted.
+pub(crate) fn run_lines(input: &[u8], out: &mut [u8]) -> usize
+    requires { ⌜ length (now input) ≤ inputLimit ⌝ }
+    ensures { λ r. ⌜ Wrote (now (out .entry)) 0 (outputOf sizes (now (input .entry))) (now (out .exit)) r ⌝ }
+{
+    let mut board = start();
+    let mut line: u32 = 1;
+    let mut from = 0;
+    let mut at = 0;
+    while from < input.len() {
+        let end = line_end(input, from);
+        let turn = line_turn(board, &input[from..end]);
+        let said = turn.said;
+        let next = turn.board;
+        at = say(out, at, line, said);
+        board = next;
+        line += 1;
+        from = end + 1;
+    }
+    put_ending(out, at, board)
+}
