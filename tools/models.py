@@ -88,10 +88,11 @@ def crate_files(marked):
 
 
 def listed():
-    """crates.txt with the premium crates' lines at its end."""
-    own = open('crates.txt').read().split(MARK)[0]
-    lines = [line for line in own.splitlines() if line.split(':')[0] in CRATES]
-    return own + MARK + ''.join(renamed_line(line) + '\n' for line in lines)
+    """crates.txt with the premium crates' lines between their heading and the next one."""
+    before, after = open('crates.txt').read().split(MARK)
+    lines = [line for line in before.splitlines() if line.split(':')[0] in CRATES]
+    rest = after[after.index('#'):] if '#' in after else ''
+    return before + MARK + ''.join(renamed_line(line) + '\n' for line in lines) + rest
 
 
 def header():

@@ -1,15 +1,14 @@
 -- The same command on two models (00; 02, M-100): which calls both can be asked, and in what their outcomes agree.
 use Prim.Native.Nat.{ℕ, _-_}
 use mathlib.Core.Path.{_≡_}
-use mathlib.Core.Bool.{Bool, true, false, not, _&&_}
+use mathlib.Core.Bool.{Bool, true, false, not, _&&_, _||_}
 use mathlib.Core.List.{List, [], _∷_, _++_}
-use lib.ListN.{length}
 use lib.Dec.{T, eqb, ltb}
 use Rattle.lend.specs.Sizes.{Sizes, memoryBytes}
 use Rattle.lend.specs.Tables.{Tables, State}
 use Rattle.lend.specs.Cache.{anyEmpty}
 use Rattle.lend.specs.Translate.{hit}
-use Rattle.lend.specs.Calls.{Call, Create, Delete, Unmap, Flush, Map, Grant, Translate, Load, Store, Reply, Outcome, number, step}
+use Rattle.lend.specs.Calls.{Call, Create, Delete, Unmap, Flush, Map, Grant, Translate, Load, Store, Outcome, number, step}
 use Rattle.lend_models.specs.Embedding.{wide, wideSlots, wideLive}
 
 -- ── the calls ────────────────────────────────────────────────────────────
@@ -47,6 +46,11 @@ takesMemory (Translate space address rights) = false
 takesMemory (Load space address) = true
 takesMemory (Store space address byte) = true
 
+-- some call of the list does
+abbrev pub anyMemory : List Call → Bool
+anyMemory [] = false
+anyMemory (c ∷ cs) = takesMemory c || anyMemory cs
+
 -- ── the two states ───────────────────────────────────────────────────────
 -- the larger model's spaces and pages are those of the smaller one, its cache whatever it is; its memory goes on with the bytes of rest
 pub record Embeds (z w : Sizes) (rest : List ℕ) (small large : State) : Type 0 where
@@ -68,7 +72,7 @@ pub record Agree (z w : Sizes) (rest : List ℕ) (small large : Outcome) : Type 
   pub embeds-again : Embeds z w rest (small .state) (large .state)
 
 -- two runs of the same calls agree at each of them
-pub AllAgree : Sizes → Sizes → List ℕ → State → State → List Call → Type 0
+unfoldable pub AllAgree : Sizes → Sizes → List ℕ → State → State → List Call → Type 0
 AllAgree z w rest small large [] = Embeds z w rest small large
 AllAgree z w rest small large (c ∷ cs) =
     Agree z w rest (step z small c) (step w large c) × AllAgree z w rest (step z small c .state) (step w large c .state) cs
@@ -95,6 +99,6 @@ abbrev pub wideState : Sizes → Sizes → List ℕ → State → State
 wideState z w rest st = record { board = wide z w (st .board); memory = st .memory ++ rest }
 
 -- no accepted call of the list replaces an entry
-pub NoneReplaced : Sizes → State → List Call → Type 0
+unfoldable pub NoneReplaced : Sizes → State → List Call → Type 0
 NoneReplaced z st [] = Unit {0}
-NoneReplaced z st (c ∷ cs) = T (not (eqb (number z st c) 0 && replaces (st .board) c)) × NoneReplaced z (step z st c .state) cs
+NoneReplaced z st (c ∷ cs) = T (not (replaces (st .board) c && eqb (number z st c) 0)) × NoneReplaced z (step z st c .state) cs

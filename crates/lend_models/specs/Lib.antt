@@ -1,2 +1,3 @@
 pub mod Embedding
 pub mod Agreement
+pub mod Witness

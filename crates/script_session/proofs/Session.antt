@@ -58,6 +58,11 @@ pub session : scriptOutput sizes.entry (text input) ≡ text output
 unfolding placeFor cached emptyIn goesTo nextAfter lostRight cases number boardAfter memoryAfter report step emptied mapped line frame every some count tabulateFrom less within slotTest pagesTest cacheTest soundTest startBoard physical hit looked unmapped flushed decimalIn decimal digitOf firstDigit oneMoreDigit numberAt keyAt fieldAt oneField threeFields fiveFields lines createOr deleteOr unmapOr flushOr mapOr grantOr translateOr requestOf isComment entry answerLine translationLine malformedLine pageLine heldLine judged turn saidLine slotLine listingFrom listing heldOutside ending answers outputOf scriptOutput
 session = refl
 
+-- and the same on the premium model
+pub premium-session : scriptOutput sizes.premium (text input) ≡ text output
+unfolding placeFor cached emptyIn goesTo nextAfter lostRight cases number boardAfter memoryAfter report step emptied mapped line frame every some count tabulateFrom less within slotTest pagesTest cacheTest soundTest startBoard physical hit looked unmapped flushed decimalIn decimal digitOf firstDigit oneMoreDigit numberAt keyAt fieldAt oneField threeFields fiveFields lines createOr deleteOr unmapOr flushOr mapOr grantOr translateOr requestOf isComment entry answerLine translationLine malformedLine pageLine heldLine judged turn saidLine slotLine listingFrom listing heldOutside ending answers outputOf scriptOutput
+premium-session = refl
+
 -- ── what else the document says of lines, each on a script of its own ────
 pub record Corners : Type 0 where
   pub empty-input : scriptOutput sizes.entry [] ≡ bytes "held=0\n"

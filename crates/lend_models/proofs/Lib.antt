@@ -1,0 +1,15 @@
+pub mod Wide
+pub mod WidePages
+pub mod WideLines
+pub mod WideCache
+pub mod WideSound
+pub mod WideSlots
+pub mod WideMemory
+pub mod Counts
+pub mod WideStart
+pub mod SameNumber
+pub mod SameCommand
+pub mod CacheAfter
+pub mod SameCache
+pub mod HitsDiffer
+pub mod FromStart
