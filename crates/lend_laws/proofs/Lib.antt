@@ -5,3 +5,4 @@ pub mod Spaces
 pub mod Accepted
 pub mod Emptied
 pub mod Keeps
+pub mod EmptyPages
