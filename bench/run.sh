@@ -1,28 +1,57 @@
 #!/bin/bash
-# bench/run.sh [--seconds S]: measures the proved C library beside plain Rust on this machine and prints the tables of
-# docs/PERFORMANCE.md. S is the time for each row, 1 second if none is given. No pass and no fail: the figures are for reading.
-# Needs the kit (rt), cargo, nm, objcopy and, for the script program, cc. Everything is built below build/.
-set -eu
+# bench/run.sh [--write] [--seconds S]: measures the proved C library of each model beside plain Rust on this machine and prints the
+# tables of docs/PERFORMANCE.md. With --write it puts them there too. S is the time for each row, 1 second if none is given.
+# No pass and no fail: the figures are for reading.
+# Needs the kit (rt), cargo, nm, objcopy and, for the script programs, cc. Everything is built below build/.
+set -eu -o pipefail
 cd "$(dirname "$(readlink -f "$0")")/.."
-bench/native.sh lend_entry
-library=$PWD/build/native/lend_entry.o
+asked="bench/run.sh${*:+ $*}"
+write= words=()
+for word in "$@"; do
+    if [ "$word" = --write ]; then write=yes; else words+=("$word"); fi
+done
 
-# A second copy of the library whose copies of memory are counted: the same object, with other names outside.
-counting=$PWD/build/native/lend_entry_counting.o
-nm -g "$library" | awk '{print $NF, "counting_" $NF}' >build/native/names
-objcopy --redefine-syms=build/native/names "$library" "$counting"
-
-export LEND_OBJECTS="$library $counting" CARGO_TARGET_DIR=$PWD/build/cargo
+# Each library, and a second copy of it whose copies of memory are counted: the same object, with other names outside.
+LEND_OBJECTS=
+for name in lend_entry lend_premium; do
+    bench/native.sh "$name"
+    library=$PWD/build/native/$name.o
+    counting=$PWD/build/native/${name}_counting.o
+    nm -g "$library" | awk '{print $NF, "counting_" $NF}' >build/native/names
+    objcopy --redefine-syms=build/native/names "$library" "$counting"
+    LEND_OBJECTS+="$library $counting "
+done
+export LEND_OBJECTS CARGO_TARGET_DIR=$PWD/build/cargo
 cargo build --quiet --release --offline --manifest-path bench/Cargo.toml
 
-words=()
-if bench/native.sh board_script; then
-    cc -o build/native/board_script build/native/board_script.o
-    words=(--script "$PWD/build/native/board_script")
-else
-    echo "run.sh: board_script was not built, so its lines are not measured" >&2
-fi
+# script WORD NAME: builds the script program NAME and names it to the bench by the option WORD.
+script() {
+    if bench/native.sh "$2"; then
+        cc -o "build/native/$2" "build/native/$2.o"
+        words+=("$1" "$PWD/build/native/$2")
+    else
+        echo "run.sh: $2 was not built, so its lines are not measured" >&2
+    fi
+}
+script --entry-script board_script
+script --premium-script board_script_premium
 
-echo "$(date -u +%Y-%m-%d), $(uname -sm), $(nproc) processors, load $(cut -d' ' -f1 /proc/loadavg), commit $(git rev-parse --short HEAD)"
-echo "kit: $(rt version); $(rustc --version)"
-exec build/cargo/release/lend-bench "$@" "${words[@]}"
+load() { cut -d' ' -f1 /proc/loadavg; }
+report() {
+    echo "$(date -u +%Y-%m-%d), \`$asked\`: $(uname -sm) ($(lscpu | sed -n 's/^Model name: *//p')), $(nproc) processors, load $(load) at the start;"
+    echo "$(rt version), $(rustc --version), commit $(git describe --always --dirty --exclude='*')."
+    build/cargo/release/lend-bench "${words[@]}"
+    echo
+    echo "The load at the end of the run was $(load)."
+}
+report | tee build/tables.md
+
+# The tables take the place of the section that has them.
+if [ -n "$write" ]; then
+    awk -v tables=build/tables.md '
+        /^## / { old = 0 }
+        !old
+        /^## The tables$/ { print ""; while ((getline line <tables) > 0) print line; print ""; old = 1 }
+    ' docs/PERFORMANCE.md >build/PERFORMANCE.md
+    cp build/PERFORMANCE.md docs/PERFORMANCE.md
+fi

@@ -1,8 +1,6 @@
 //! How many bytes of stack a call uses: the stack below the caller is painted with a pattern, the call is made, and the deepest
 //! place that it overwrote is looked up.
-use crate::boards::Ring;
-use crate::calls::{Call, Numbers, Out};
-use crate::plain::MEMORY;
+use crate::library::{Numbers, Out};
 use std::arch::asm;
 
 /// Bytes that are painted, and the stack of the thread that is measured in.
@@ -24,9 +22,9 @@ fn stack_pointer() -> usize {
     at & !7
 }
 
-/// Stack bytes of one call below its caller, in steps of eight.
+/// Stack bytes of one call below its caller, in steps of eight. To be called on a thread of [`on_a_thread`].
 #[inline(never)]
-fn bytes_of<B: ?Sized>(
+pub fn bytes_of<B: ?Sized>(
     f: fn(&mut B, &mut [u8], &Numbers, &mut Out) -> u32,
     board: &mut B,
     memory: &mut [u8],
@@ -45,21 +43,8 @@ fn bytes_of<B: ?Sized>(
     top - deepest.unwrap_or(top)
 }
 
-/// The most that a call used on any board of the ring: the library, plain Rust on an image, plain Rust on its struct.
-pub fn bytes(call: &Call, ring: &Ring) -> [usize; 3] {
-    let measure = || {
-        let mut memory = vec![0; MEMORY];
-        let mut most = [0; 3];
-        for ((image, board), numbers) in ring.images.iter().zip(&ring.boards).zip(&ring.numbers) {
-            let used = [
-                bytes_of::<[u8]>(call.library, &mut image.clone(), &mut memory, numbers),
-                bytes_of::<[u8]>(call.image, &mut image.clone(), &mut memory, numbers),
-                bytes_of(call.own, &mut board.clone(), &mut memory, numbers),
-            ];
-            most = std::array::from_fn(|i| most[i].max(used[i]));
-        }
-        most
-    };
+/// What the function gives on a thread whose stack is long enough to be painted.
+pub fn on_a_thread<A: Send>(measure: impl FnOnce() -> A + Send) -> A {
     std::thread::scope(|scope| {
         let thread = std::thread::Builder::new().stack_size(THREAD).spawn_scoped(scope, measure);
         thread.expect("a thread").join().expect("its answer")

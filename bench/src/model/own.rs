@@ -1,6 +1,7 @@
 //! Plain Rust, first way: the board in a struct of its own, changed through `&mut`.
-use crate::calls::{Numbers, Out};
-use crate::plain::{self, Place, Slot, Tables, PLACES, SLOTS, SPACES};
+use super::plain::{self, Place, Slot, Tables};
+use super::{PLACES, SLOTS, SPACES};
+use crate::library::{Numbers, Out};
 
 /// A board.
 #[derive(Clone, PartialEq, Eq, Debug)]
@@ -58,4 +59,4 @@ macro_rules! own {
         }
     };
 }
-crate::calls::each_call!(own);
+super::calls::each_call!(own);

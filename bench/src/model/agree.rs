@@ -1,9 +1,11 @@
 //! Holds the three columns to one another: same number, same out fields, same bytes. Not timed.
-use crate::boards::{deep, flat, lent, mixed, request, Random, Ring};
-use crate::calls::{Call, Numbers, Out, CALLS};
-use crate::image_plain::{image_of, IMAGE};
-use crate::own::Board;
-use crate::plain::MEMORY;
+use super::boards::{request, Kind, Ring};
+use super::calls::{Call, CALLS};
+use super::image_plain::{image_of, IMAGE};
+use super::own::Board;
+use super::{MEMORY, SPACES};
+use crate::library::{Numbers, OnImage, Out};
+use crate::random::Random;
 
 /// What a call leaves behind.
 #[derive(PartialEq, Debug)]
@@ -18,7 +20,7 @@ fn memory() -> Vec<u8> {
     (0..MEMORY).map(|i| (i % 251) as u8).collect()
 }
 
-fn on_image(f: crate::calls::OnImage, image: &[u8], numbers: &Numbers) -> Left {
+fn on_image(f: OnImage, image: &[u8], numbers: &Numbers) -> Left {
     let (mut image, mut memory, mut out) = (image.to_vec(), memory(), [9; 4]);
     let number = f(&mut image, &mut memory, numbers, &mut out);
     Left { number, out, image, memory }
@@ -60,16 +62,16 @@ pub fn on_ring(call: &Call, ring: &Ring) -> usize {
 /// Every call with random numbers, bad ones among them, on random boards and on damaged images.
 pub fn at_random(random: &mut Random, boards: usize) -> usize {
     let mut compared = 0;
-    for turn in 0..boards {
-        let board = [flat, deep, mixed, lent][turn % 4](random);
+    for kind in Kind::all().into_iter().cycle().take(boards) {
+        let board = kind.board(random);
         let image = image_of(&board);
         let mut damaged = image;
-        damaged[random.below(IMAGE as u32) as usize] = random.below(10) as u8;
+        damaged[random.below(IMAGE as u32) as usize] = random.below(SPACES as u32 + 2) as u8;
         for call in &CALLS {
             for _ in 0..8 {
-                let mut numbers = request(random, call.name, 9);
+                let mut numbers = request(random, call.name, SPACES as u32 + 1);
                 if random.below(8) == 0 {
-                    numbers[random.below(7) as usize] = random.below(40_000);
+                    numbers[random.below(7) as usize] = random.below(MEMORY as u32 * 5 / 4);
                 }
                 all_three(call, &board, &image, &numbers);
                 same(call, &numbers, &on_image(call.library, &damaged, &numbers), &on_image(call.image, &damaged, &numbers));

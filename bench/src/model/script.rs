@@ -1,12 +1,12 @@
-//! The script program in plain Rust, a session for it, and the time of a program that runs it.
-use crate::boards::{request, Random};
-use crate::calls::{call, Numbers, Out};
-use crate::own::Board;
-use crate::plain::{Link, Tables, PAGES, SLOTS};
+//! The script program in plain Rust, and a session for it.
+use super::boards::request;
+use super::calls::call;
+use super::own::Board;
+use super::plain::{Link, Tables};
+use super::{PAGES, SLOTS, SPACES};
+use crate::library::{Numbers, Out};
+use crate::random::Random;
 use std::fmt::Write as _;
-use std::io::Write as _;
-use std::process::{Command, Stdio};
-use std::time::{Duration, Instant};
 
 const INPUT: usize = 65_536;
 const LINE: usize = 80;
@@ -88,11 +88,11 @@ pub fn run(input: &[u8]) -> String {
 
 /// A session of the greatest length: spaces made, then random commands.
 pub fn session(random: &mut Random) -> String {
-    let mut text: String = (2..8).map(|space| format!("op=create space={space}\n")).collect();
+    let mut text: String = (2..SPACES).map(|space| format!("op=create space={space}\n")).collect();
     loop {
         let name = ["map", "map", "map", "grant", "unmap", "flush", "translate", "translate"][random.below(8) as usize];
         let keys = FORMS.iter().find(|form| form.0 == name).expect("a form").1;
-        let numbers = request(random, name, 8);
+        let numbers = request(random, name, SPACES as u32);
         let words: String = keys.iter().zip(numbers).map(|(key, number)| format!(" {key}={number}")).collect();
         let line = format!("op={name}{words}\n");
         if text.len() + line.len() > INPUT {
@@ -100,41 +100,4 @@ pub fn session(random: &mut Random) -> String {
         }
         text += &line;
     }
-}
-
-/// Runs a program on an input; what it wrote, and how long it took.
-fn timed(program: &[String], input: &str) -> (Vec<u8>, Duration) {
-    let began = Instant::now();
-    let mut child = Command::new(&program[0])
-        .args(&program[1..])
-        .stdin(Stdio::piped())
-        .stdout(Stdio::piped())
-        .spawn()
-        .unwrap_or_else(|error| panic!("{}: {error}", program[0]));
-    let mut stdin = child.stdin.take().expect("its input");
-    let text = input.to_owned();
-    let feed = std::thread::spawn(move || stdin.write_all(text.as_bytes()));
-    let output = child.wait_with_output().expect("its end").stdout;
-    feed.join().expect("the feeding thread").expect("all of the input taken");
-    (output, began.elapsed())
-}
-
-/// Lines per second of each program in the seconds given, in turns; the best time on empty input is taken off the best time on the session.
-pub fn lines_per_second<const N: usize>(programs: &[Vec<String>; N], session: &str, seconds: f64) -> [f64; N] {
-    let (expected, empty) = (run(session.as_bytes()), run(b""));
-    let mut best = [[Duration::MAX; 2]; N];
-    let began = Instant::now();
-    let mut turns = 0;
-    while turns < 3 || began.elapsed().as_secs_f64() < seconds {
-        for (program, best) in programs.iter().zip(&mut best) {
-            for ((input, wanted), best) in [(session, &expected), ("", &empty)].into_iter().zip(best) {
-                let (output, took) = timed(program, input);
-                assert!(output == wanted.as_bytes(), "{}: it wrote something else than plain Rust", program[0]);
-                *best = took.min(*best);
-            }
-        }
-        turns += 1;
-    }
-    let lines = session.lines().count() as f64;
-    best.map(|[full, none]| lines / full.saturating_sub(none).as_secs_f64())
 }

@@ -2,13 +2,8 @@
 //!
 //! The rules are written once over [`Tables`], what a board is stored in; `own.rs` stores it in a struct, `image_plain.rs` in the bytes
 //! of include/lend.h. Nothing here is shared with the proved code.
+use super::{MEMORY, PAGES, PAGE_BYTES, PLACES, SLOTS, SPACES};
 
-pub const SPACES: usize = 8;
-pub const PAGES: usize = 32;
-pub const SLOTS: usize = SPACES * PAGES;
-pub const PLACES: usize = 8;
-pub const PAGE_BYTES: u32 = 1024;
-pub const MEMORY: usize = 32_768;
 const ALL: u8 = 7;
 
 /// What a page is linked to.

@@ -1,6 +1,7 @@
 //! Plain Rust, second way: the board stays in the byte image of include/lend.h and is read and changed there.
-use crate::calls::{Numbers, Out};
-use crate::plain::{Link, Place, Slot, Tables, PLACES, SLOTS, SPACES};
+use super::plain::{Link, Place, Slot, Tables};
+use super::{PLACES, SLOTS, SPACES};
+use crate::library::{Numbers, Out};
 
 const LIVE: usize = 4 * SLOTS;
 const CACHE: usize = LIVE + SPACES;
@@ -109,4 +110,4 @@ macro_rules! on_image {
         }
     };
 }
-crate::calls::each_call!(on_image);
+super::calls::each_call!(on_image);

@@ -1,7 +1,12 @@
 //! The calls over ranges in plain Rust, over the one-page calls of `plain.rs`; soundness is tested once. The numbers stand in the order
 //! of include/lend.h.
-use crate::calls::Numbers;
-use crate::plain::{self, check_rights, check_sound, check_spaces, refuse_if, Refusal, Tables, PAGES, SLOTS};
+use super::plain::{self, check_rights, check_sound, check_spaces, refuse_if, Refusal, Tables};
+use super::{PAGES, SLOTS};
+use crate::library::Numbers;
+
+const LAST_PAGE: u32 = PAGES as u32 - 1;
+/// The size of the largest part, which has every page; that of the smallest is 10.
+const LARGEST: u32 = 10 + PAGES.ilog2();
 
 /// What a call over a range did: the first refused page's number or 0, the pages done, that page's offset or the number of all pages,
 /// and how many pages were emptied.
@@ -17,7 +22,7 @@ fn decoded(base: u32, size: u32) -> Result<(u32, u32), Refusal> {
     match (base, size) {
         (0, 0) => Ok((0, 0)),
         (0, 1) => Ok((0, PAGES as u32)),
-        (0..=31, 10..=15) => {
+        (0..=LAST_PAGE, 10..=LARGEST) => {
             let count = 1 << (size - 10);
             Ok((base - base % count, count))
         }
