@@ -1,6 +1,7 @@
 #!/bin/bash
-# cc.sh OUT FILE..: compiles C files for x86-64, the processor that the kit compiles for, and links them with the archives that are
-# named, by the kit's own compiler, linker and C library; tools/run.sh runs the program on any machine that the kit runs on.
+# cc.sh OUT [-DNAME..] FILE..: compiles C files for x86-64, the processor that the kit compiles for, and links them with the archives
+# that are named, by the kit's own compiler, linker and C library; tools/run.sh runs the program on any machine that the kit runs on.
+# A -D option stands before the C files that it is for.
 set -eu
 out=$1
 shift
@@ -9,12 +10,14 @@ tools=$kit/on/$(uname -m)/toolchain
 headers=(-isystem "$(gcc -print-file-name=include)" -isystem "/usr/include/$(gcc -dumpmachine)" -isystem /usr/include)
 work=$(mktemp -d)
 trap 'rm -rf "$work"' EXIT
-objects=()
+objects=() defines=()
 for file in "$@"; do
     case $file in
+    -D*) defines+=("$file") ;;
     *.c)
         object=$work/$(basename "$file" .c).o
-        "$tools/bin/clang" --target=x86_64-linux-gnu "${headers[@]}" -std=c99 -Wall -Wextra -Werror -O2 -fPIE -Iinclude -c "$file" -o "$object"
+        "$tools/bin/clang" --target=x86_64-linux-gnu "${headers[@]}" "${defines[@]}" -std=c99 -Wall -Wextra -Werror -O2 -fPIE -Iinclude \
+            -c "$file" -o "$object"
         objects+=("$object")
         ;;
     *) objects+=("$file") ;;

@@ -1,12 +1,21 @@
-/* A walk through include/lend.h on the entry model. Every call is printed with the number and the out fields that came back. */
+/* A walk through include/lend.h. Every call is printed with the number and the out fields that came back. One text for both models:
+ * the entry model, or with PREMIUM defined the premium model, and what it prints is the same. */
 #include "lend.h"
 
 #include <stdio.h>
 #include <string.h>
 
-static uint8_t image[LEND_ENTRY_IMAGE];
-static uint8_t memory[LEND_ENTRY_MEMORY];
-static uint8_t before[LEND_ENTRY_IMAGE];
+#ifdef PREMIUM
+#define CALL(name) lend_premium_##name
+#define SIZE(name) LEND_PREMIUM_##name
+#else
+#define CALL(name) lend_entry_##name
+#define SIZE(name) LEND_ENTRY_##name
+#endif
+
+static uint8_t image[SIZE(IMAGE)];
+static uint8_t memory[SIZE(MEMORY)];
+static uint8_t before[SIZE(IMAGE)];
 static uint32_t out[4];
 
 static void answer(const char *call, uint32_t number)
@@ -18,13 +27,13 @@ static void answer(const char *call, uint32_t number)
 /* Space 1 gets page 3 of the pool as its page 5, and lends it on to space 2, to read and write. */
 static void lend(void)
 {
-    answer("create space 2", lend_entry_create(image, sizeof image, 2, out));
-    answer("create space 2, which is live", lend_entry_create(image, sizeof image, 2, out));
-    answer("map 0:3 to 1:5, all rights", lend_entry_map(image, sizeof image, 0, 3, 1, 5, LEND_ALL, out));
+    answer("create space 2", CALL(create)(image, sizeof image, 2, out));
+    answer("create space 2, which is live", CALL(create)(image, sizeof image, 2, out));
+    answer("map 0:3 to 1:5, all rights", CALL(map)(image, sizeof image, 0, 3, 1, 5, LEND_ALL, out));
     answer("map 1:5 to 2:7, read and write",
-           lend_entry_map(image, sizeof image, 1, 5, 2, 7, LEND_READ + LEND_WRITE, out));
-    answer("map 2:7 to 1:6, execute, which 2:7 has not", lend_entry_map(image, sizeof image, 2, 7, 1, 6, LEND_EXECUTE, out));
-    answer("map 2:7 to 1:6, read, back to space 1", lend_entry_map(image, sizeof image, 2, 7, 1, 6, LEND_READ, out));
+           CALL(map)(image, sizeof image, 1, 5, 2, 7, LEND_READ + LEND_WRITE, out));
+    answer("map 2:7 to 1:6, execute, which 2:7 has not", CALL(map)(image, sizeof image, 2, 7, 1, 6, LEND_EXECUTE, out));
+    answer("map 2:7 to 1:6, read, back to space 1", CALL(map)(image, sizeof image, 2, 7, 1, 6, LEND_READ, out));
 }
 
 /* Both spaces see the one frame. */
@@ -32,16 +41,16 @@ static void use(void)
 {
     const uint32_t address = 7 * LEND_PAGE_BYTES + 10;
 
-    answer("translate byte 10 of 2:7, to read", lend_entry_translate(image, sizeof image, 2, address, LEND_READ, out));
-    answer("the same again, now from the cache", lend_entry_translate(image, sizeof image, 2, address, LEND_READ, out));
+    answer("translate byte 10 of 2:7, to read", CALL(translate)(image, sizeof image, 2, address, LEND_READ, out));
+    answer("the same again, now from the cache", CALL(translate)(image, sizeof image, 2, address, LEND_READ, out));
     answer("store 42 there",
-           lend_entry_store(image, sizeof image, memory, sizeof memory, 2, address, 42, out));
+           CALL(store)(image, sizeof image, memory, sizeof memory, 2, address, 42, out));
     printf("memory at 3082: %u\n", (unsigned)memory[3082]);
-    answer("load it", lend_entry_load(image, sizeof image, memory, sizeof memory, 2, address, out));
+    answer("load it", CALL(load)(image, sizeof image, memory, sizeof memory, 2, address, out));
     answer("load it through 1:5",
-           lend_entry_load(image, sizeof image, memory, sizeof memory, 1, 5 * LEND_PAGE_BYTES + 10, out));
+           CALL(load)(image, sizeof image, memory, sizeof memory, 1, 5 * LEND_PAGE_BYTES + 10, out));
     answer("load with one byte of memory missing",
-           lend_entry_load(image, sizeof image, memory, sizeof memory - 1, 2, address, out));
+           CALL(load)(image, sizeof image, memory, sizeof memory - 1, 2, address, out));
 }
 
 /* What was lent is taken back: the lender wins. */
@@ -49,35 +58,35 @@ static void take_back(void)
 {
     const uint32_t address = 7 * LEND_PAGE_BYTES + 10;
 
-    answer("unmap below 1:5, write", lend_entry_unmap(image, sizeof image, 1, 5, LEND_WRITE, out));
+    answer("unmap below 1:5, write", CALL(unmap)(image, sizeof image, 1, 5, LEND_WRITE, out));
     answer("store through 2:7, which lost the right",
-           lend_entry_store(image, sizeof image, memory, sizeof memory, 2, address, 43, out));
-    answer("grant 2:7 to 1:6, read, back to space 1", lend_entry_grant(image, sizeof image, 2, 7, 1, 6, LEND_READ, out));
-    answer("create space 3", lend_entry_create(image, sizeof image, 3, out));
-    answer("grant 2:7 to 3:0, read", lend_entry_grant(image, sizeof image, 2, 7, 3, 0, LEND_READ, out));
-    answer("delete space 3", lend_entry_delete(image, sizeof image, 3, out));
-    answer("map 1:5 to 2:7, read", lend_entry_map(image, sizeof image, 1, 5, 2, 7, LEND_READ, out));
-    answer("flush 1:5, all rights", lend_entry_flush(image, sizeof image, 1, 5, LEND_ALL, out));
+           CALL(store)(image, sizeof image, memory, sizeof memory, 2, address, 43, out));
+    answer("grant 2:7 to 1:6, read, back to space 1", CALL(grant)(image, sizeof image, 2, 7, 1, 6, LEND_READ, out));
+    answer("create space 3", CALL(create)(image, sizeof image, 3, out));
+    answer("grant 2:7 to 3:0, read", CALL(grant)(image, sizeof image, 2, 7, 3, 0, LEND_READ, out));
+    answer("delete space 3", CALL(delete)(image, sizeof image, 3, out));
+    answer("map 1:5 to 2:7, read", CALL(map)(image, sizeof image, 1, 5, 2, 7, LEND_READ, out));
+    answer("flush 1:5, all rights", CALL(flush)(image, sizeof image, 1, 5, LEND_ALL, out));
     answer("load through 2:7, which is empty",
-           lend_entry_load(image, sizeof image, memory, sizeof memory, 2, address, out));
+           CALL(load)(image, sizeof image, memory, sizeof memory, 2, address, out));
 }
 
 /* Bytes that are no board's image are refused, and stay as they are. */
 static void refuse(void)
 {
-    printf("sound: %u\n", (unsigned)lend_entry_sound(image, sizeof image));
-    image[LEND_ENTRY_SLOT] = 3;
+    printf("sound: %u\n", (unsigned)CALL(sound)(image, sizeof image));
+    image[SIZE(SLOT)] = 3;
     memcpy(before, image, sizeof image);
-    printf("sound, with a kind of 3: %u\n", (unsigned)lend_entry_sound(image, sizeof image));
-    answer("create space 4, with a kind of 3", lend_entry_create(image, sizeof image, 4, out));
-    answer("start, with one byte missing", lend_entry_start(image, sizeof image - 1, out));
+    printf("sound, with a kind of 3: %u\n", (unsigned)CALL(sound)(image, sizeof image));
+    answer("create space 4, with a kind of 3", CALL(create)(image, sizeof image, 4, out));
+    answer("start, with one byte missing", CALL(start)(image, sizeof image - 1, out));
     printf("bytes changed: %s\n", memcmp(before, image, sizeof image) == 0 ? "none" : "some");
 }
 
 int main(void)
 {
     memset(image, 255, sizeof image);
-    answer("start", lend_entry_start(image, sizeof image, out));
+    answer("start", CALL(start)(image, sizeof image, out));
     lend();
     use();
     take_back();

@@ -1,4 +1,5 @@
 /* Serves the C library's calls over standard input and output, so that a program of any language and processor can drive it.
+ * One text for both models: the entry model's calls, or with PREMIUM defined the premium model's.
  *
  * A request: the call's letter, seven numbers, a byte, the lengths of image and memory (each a uint32_t), and their bytes.
  * The reply: the number, the four out fields, a byte that is 1 where the call changed a byte outside what was lent to it, and the
@@ -9,6 +10,12 @@
 #include <string.h>
 
 #include "lend.h"
+
+#ifdef PREMIUM
+#define CALL(name) lend_premium_##name
+#else
+#define CALL(name) lend_entry_##name
+#endif
 
 /* What stands on both sides of lent bytes; an odd number, so that they start at an odd address. */
 enum { GUARD = 61, GUARD_BYTE = 0xa5 };
@@ -65,21 +72,21 @@ static uint32_t call(struct request *r, uint32_t *out) {
     size_t length = r->image.length, bytes = r->memory.length;
     uint32_t *n = r->n;
     switch (r->call) {
-    case 's': return lend_entry_start(b, length, out);
-    case '?': memset(out, 0, 4 * sizeof *out); return lend_entry_sound(b, length);
-    case 'c': return lend_entry_create(b, length, n[0], out);
-    case 'd': return lend_entry_delete(b, length, n[0], out);
-    case 'u': return lend_entry_unmap(b, length, n[0], n[1], n[2], out);
-    case 'f': return lend_entry_flush(b, length, n[0], n[1], n[2], out);
-    case 'm': return lend_entry_map(b, length, n[0], n[1], n[2], n[3], n[4], out);
-    case 'g': return lend_entry_grant(b, length, n[0], n[1], n[2], n[3], n[4], out);
-    case 't': return lend_entry_translate(b, length, n[0], n[1], n[2], out);
-    case 'l': return lend_entry_load(b, length, m, bytes, n[0], n[1], out);
-    case 'w': return lend_entry_store(b, length, m, bytes, n[0], n[1], r->value, out);
-    case 'U': return lend_entry_unmap_range(b, length, n[0], n[1], n[2], n[3], out);
-    case 'F': return lend_entry_flush_range(b, length, n[0], n[1], n[2], n[3], out);
-    case 'M': return lend_entry_map_range(b, length, n[0], n[1], n[2], n[3], n[4], n[5], n[6], out);
-    case 'G': return lend_entry_grant_range(b, length, n[0], n[1], n[2], n[3], n[4], n[5], n[6], out);
+    case 's': return CALL(start)(b, length, out);
+    case '?': memset(out, 0, 4 * sizeof *out); return CALL(sound)(b, length);
+    case 'c': return CALL(create)(b, length, n[0], out);
+    case 'd': return CALL(delete)(b, length, n[0], out);
+    case 'u': return CALL(unmap)(b, length, n[0], n[1], n[2], out);
+    case 'f': return CALL(flush)(b, length, n[0], n[1], n[2], out);
+    case 'm': return CALL(map)(b, length, n[0], n[1], n[2], n[3], n[4], out);
+    case 'g': return CALL(grant)(b, length, n[0], n[1], n[2], n[3], n[4], out);
+    case 't': return CALL(translate)(b, length, n[0], n[1], n[2], out);
+    case 'l': return CALL(load)(b, length, m, bytes, n[0], n[1], out);
+    case 'w': return CALL(store)(b, length, m, bytes, n[0], n[1], r->value, out);
+    case 'U': return CALL(unmap_range)(b, length, n[0], n[1], n[2], n[3], out);
+    case 'F': return CALL(flush_range)(b, length, n[0], n[1], n[2], n[3], out);
+    case 'M': return CALL(map_range)(b, length, n[0], n[1], n[2], n[3], n[4], n[5], n[6], out);
+    case 'G': return CALL(grant_range)(b, length, n[0], n[1], n[2], n[3], n[4], n[5], n[6], out);
     default: exit(3);
     }
 }

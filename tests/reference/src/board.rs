@@ -563,8 +563,8 @@ pub mod tests {
     }
 
     /// Board K of 01.
-    pub fn board_k() -> Board {
-        let mut board = Board::start(Sizes::ENTRY);
+    pub fn board_k(sizes: Sizes) -> Board {
+        let mut board = Board::start(sizes);
         for space in 2..5 {
             board.live[space] = true;
         }
@@ -583,12 +583,16 @@ pub mod tests {
         Lending { from: giver.0, page: giver.1, to: taker.0, at: taker.1, rights }
     }
 
-    /// Map on a fresh board K.
+    /// Map on a fresh board K of each model: what both answer.
     fn map_on_k(giver: (u32, u32), taker: (u32, u32), rights: u32) -> Result<u32, Refusal> {
-        let mut board = board_k();
-        let answer = board.map(&lending(giver, taker, rights));
-        assert!(answer.is_ok() || board == board_k());
-        answer
+        let [entry, premium] = Sizes::MODELS.map(|sizes| {
+            let mut board = board_k(sizes);
+            let answer = board.map(&lending(giver, taker, rights));
+            assert!(answer.is_ok() || board == board_k(sizes));
+            answer
+        });
+        assert_eq!(entry, premium);
+        entry
     }
 
     fn rights(board: &Board, space: usize, page: usize) -> u8 {
@@ -596,8 +600,8 @@ pub mod tests {
     }
 
     /// What board K becomes when those pages are set to those rights (0: empty).
-    fn k_with(changes: &[(usize, usize, u8)]) -> Board {
-        let mut board = board_k();
+    fn k_with(sizes: Sizes, changes: &[(usize, usize, u8)]) -> Board {
+        let mut board = board_k(sizes);
         for &(space, page, rights) in changes {
             let slot = board.slot(spot(space, page));
             let after = if rights == 0 { Slot::EMPTY } else { Slot { rights, ..slot } };
@@ -608,41 +612,63 @@ pub mod tests {
 
     #[test]
     fn start_and_k_are_sound() {
-        assert!(Board::start(Sizes::ENTRY).sound());
-        assert!(Board::start(Sizes::PREMIUM).sound());
-        assert!(board_k().sound());
+        for sizes in Sizes::MODELS {
+            assert!(Board::start(sizes).sound());
+            assert!(board_k(sizes).sound());
+        }
+    }
+
+    #[test]
+    fn the_start_board_of_each_model() {
+        for (sizes, pages) in [(Sizes::ENTRY, 32), (Sizes::PREMIUM, 64)] {
+            let board = Board::start(sizes);
+            let held: Vec<Spot> = board.spots().filter(|&page| board.held(page)).collect();
+            assert_eq!(held, (0..pages).map(|page| spot(0, page)).collect::<Vec<_>>());
+            let own_frame = |page: &Spot| board.slot(*page) == Slot { link: Link::Frame(page.page), rights: 7 };
+            assert!(held.iter().all(own_frame));
+            assert_eq!((board.live[0], board.live[1], board.live[2..].contains(&true)), (true, true, false));
+            assert_eq!(board.cache, Cache { places: vec![Place::default(); sizes.places], next: 0 });
+        }
     }
 
     #[test]
     fn example_1_unmap_of_one_right() {
-        let mut board = board_k();
-        assert_eq!(unmap(&mut board, 1, 0, 2), Ok(1));
-        assert_eq!(board, k_with(&[(2, 3, 4), (3, 1, 0)]));
+        for sizes in Sizes::MODELS {
+            let mut board = board_k(sizes);
+            assert_eq!(unmap(&mut board, 1, 0, 2), Ok(1));
+            assert_eq!(board, k_with(sizes, &[(2, 3, 4), (3, 1, 0)]));
+        }
     }
 
     #[test]
     fn example_2_unmap_twice_or_once() {
-        let mut twice = board_k();
-        assert_eq!(unmap(&mut twice, 1, 0, 2), Ok(1));
-        assert_eq!(unmap(&mut twice, 1, 0, 4), Ok(1));
-        let mut once = board_k();
-        assert_eq!(unmap(&mut once, 1, 0, 6), Ok(2));
-        assert_eq!(twice, k_with(&[(2, 3, 0), (3, 1, 0)]));
-        assert_eq!(once, twice);
+        for sizes in Sizes::MODELS {
+            let mut twice = board_k(sizes);
+            assert_eq!(unmap(&mut twice, 1, 0, 2), Ok(1));
+            assert_eq!(unmap(&mut twice, 1, 0, 4), Ok(1));
+            let mut once = board_k(sizes);
+            assert_eq!(unmap(&mut once, 1, 0, 6), Ok(2));
+            assert_eq!(twice, k_with(sizes, &[(2, 3, 0), (3, 1, 0)]));
+            assert_eq!(once, twice);
+        }
     }
 
     #[test]
     fn example_3_unmap_in_space_0() {
-        let mut board = board_k();
-        assert_eq!(unmap(&mut board, 0, 5, 1), Ok(0));
-        assert_eq!(board, k_with(&[(1, 0, 6)]));
+        for sizes in Sizes::MODELS {
+            let mut board = board_k(sizes);
+            assert_eq!(unmap(&mut board, 0, 5, 1), Ok(0));
+            assert_eq!(board, k_with(sizes, &[(1, 0, 6)]));
+        }
     }
 
     #[test]
     fn example_4_flush_in_space_0() {
-        let mut board = board_k();
-        assert_eq!(board.flush(&Withdrawal { space: 0, page: 5, rights: 1 }), Err(Refusal::Pool));
-        assert_eq!(board, board_k());
+        for sizes in Sizes::MODELS {
+            let mut board = board_k(sizes);
+            assert_eq!(board.flush(&Withdrawal { space: 0, page: 5, rights: 1 }), Err(Refusal::Pool));
+            assert_eq!(board, board_k(sizes));
+        }
     }
 
     #[test]
@@ -670,151 +696,179 @@ pub mod tests {
 
     #[test]
     fn example_9_map_over_a_held_page() {
-        let mut board = board_k();
-        assert_eq!(board.map(&lending((1, 0), (2, 3), 4)), Ok(1));
-        assert_eq!(board, k_with(&[(2, 3, 4), (3, 1, 0)]));
+        for sizes in Sizes::MODELS {
+            let mut board = board_k(sizes);
+            assert_eq!(board.map(&lending((1, 0), (2, 3), 4)), Ok(1));
+            assert_eq!(board, k_with(sizes, &[(2, 3, 4), (3, 1, 0)]));
+        }
     }
 
     #[test]
     fn example_10_grant_of_a_part_of_the_rights() {
-        let mut board = board_k();
-        assert_eq!(board.grant(&lending((2, 3), (4, 0), 2)), Ok(1));
-        let mut expected = k_with(&[(2, 3, 4), (3, 1, 0)]);
-        link(&mut expected, (4, 0), (1, 0), 2);
-        assert_eq!(board, expected);
+        for sizes in Sizes::MODELS {
+            let mut board = board_k(sizes);
+            assert_eq!(board.grant(&lending((2, 3), (4, 0), 2)), Ok(1));
+            let mut expected = k_with(sizes, &[(2, 3, 4), (3, 1, 0)]);
+            link(&mut expected, (4, 0), (1, 0), 2);
+            assert_eq!(board, expected);
+        }
     }
 
     #[test]
     fn example_11_delete() {
-        let mut board = board_k();
-        assert_eq!(board.delete(2), Ok(3));
-        let mut expected = k_with(&[(2, 3, 0), (2, 4, 0), (3, 1, 0)]);
-        expected.live[2] = false;
-        assert_eq!(board, expected);
+        for sizes in Sizes::MODELS {
+            let mut board = board_k(sizes);
+            assert_eq!(board.delete(2), Ok(3));
+            let mut expected = k_with(sizes, &[(2, 3, 0), (2, 4, 0), (3, 1, 0)]);
+            expected.live[2] = false;
+            assert_eq!(board, expected);
+        }
     }
 
     #[test]
     fn example_12_translate_at_the_end() {
-        let mut board = board_k();
-        assert_eq!(board.translate(0, 32767, 4), Ok(Translation { address: 32767, hit: false }));
-        assert_eq!(board.translate(0, 32767, 4), Ok(Translation { address: 32767, hit: true }));
-        assert_eq!(board.translate(0, 32768, 4), Err(Refusal::Page));
-        let mut expected = board_k();
-        expected.cache.places[0] = Place { space: 0, page: 31, frame: 31, rights: 7 };
-        assert_eq!(board, expected);
+        for (sizes, last, page) in [(Sizes::ENTRY, 32767, 31), (Sizes::PREMIUM, 65535, 63)] {
+            let mut board = board_k(sizes);
+            let address = last as usize;
+            assert_eq!(board.translate(0, last, 4), Ok(Translation { address, hit: false }));
+            assert_eq!(board.translate(0, last, 4), Ok(Translation { address, hit: true }));
+            assert_eq!(board.translate(0, last + 1, 4), Err(Refusal::Page));
+            let mut expected = board_k(sizes);
+            expected.cache.places[0] = Place { space: 0, page, frame: page, rights: 7 };
+            assert_eq!(board, expected);
+        }
     }
 
     #[test]
     fn a_taker_below_the_giver_keeps_what_it_was_given() {
-        let mut board = board_k();
-        assert_eq!(board.grant(&lending((2, 3), (3, 1), 6)), Ok(1));
-        assert_eq!(board.slot(spot(3, 1)), Slot { link: Link::Page(spot(1, 0)), rights: 6 });
-        assert!(!board.held(spot(2, 3)));
-        assert!(board.sound());
+        for sizes in Sizes::MODELS {
+            let mut board = board_k(sizes);
+            assert_eq!(board.grant(&lending((2, 3), (3, 1), 6)), Ok(1));
+            assert_eq!(board.slot(spot(3, 1)), Slot { link: Link::Page(spot(1, 0)), rights: 6 });
+            assert!(!board.held(spot(2, 3)));
+            assert!(board.sound());
+        }
     }
 
     #[test]
     fn the_cache_drops_what_lost_a_right_and_keeps_the_rest() {
-        let mut board = board_k();
-        for (space, page) in [(1, 0), (2, 3), (3, 1), (2, 4)] {
-            let rights = rights(&board, space, page) as u32;
-            board.translate(space as u32, 1024 * page as u32, rights).unwrap();
+        for sizes in Sizes::MODELS {
+            let mut board = board_k(sizes);
+            for (space, page) in [(1, 0), (2, 3), (3, 1), (2, 4)] {
+                let rights = rights(&board, space, page) as u32;
+                board.translate(space as u32, 1024 * page as u32, rights).unwrap();
+            }
+            let before = board.cache.clone();
+            unmap(&mut board, 1, 0, 1).unwrap();
+            assert_eq!(board.cache, before, "no page below (1,0) has right 1");
+            unmap(&mut board, 1, 0, 4).unwrap();
+            let mut expected = before;
+            expected.places[1] = Place::default();
+            assert_eq!(board.cache, expected, "(2,3) lost 4, (3,1) had only 2");
         }
-        let before = board.cache.clone();
-        unmap(&mut board, 1, 0, 1).unwrap();
-        assert_eq!(board.cache, before, "no page below (1,0) has right 1");
-        unmap(&mut board, 1, 0, 4).unwrap();
-        let mut expected = before;
-        expected.places[1] = Place::default();
-        assert_eq!(board.cache, expected, "(2,3) lost 4, (3,1) had only 2");
     }
 
     #[test]
     fn the_same_link_again_drops_the_entry() {
-        let mut board = board_k();
-        board.translate(2, 4096, 4).unwrap();
-        assert_eq!(board.map(&lending((0, 6), (2, 4), 7)), Ok(0));
-        assert_eq!(board, board_k());
+        for sizes in Sizes::MODELS {
+            let mut board = board_k(sizes);
+            board.translate(2, 4096, 4).unwrap();
+            assert_eq!(board.map(&lending((0, 6), (2, 4), 7)), Ok(0));
+            assert_eq!(board, board_k(sizes));
+        }
     }
 
     #[test]
     fn the_cache_wraps_around() {
-        let mut board = Board::start(Sizes::ENTRY);
-        for page in 0..17 {
-            assert!(!board.translate(0, 1024 * page, 4).unwrap().hit);
+        for (sizes, places) in [(Sizes::ENTRY, 8), (Sizes::PREMIUM, 16)] {
+            let mut board = Board::start(sizes);
+            for page in 0..2 * places + 1 {
+                assert!(!board.translate(0, 1024 * page as u32, 4).unwrap().hit);
+            }
+            assert_eq!(board.cache.next, 1);
+            assert_eq!(board.cache.places[0].page, 2 * places);
+            assert_eq!(board.cache.places[1].page, places + 1);
+            assert!(!board.translate(0, 1024 * places as u32, 4).unwrap().hit);
+            assert_eq!(board.cache.next, 2);
+            assert!(board.sound());
         }
-        assert_eq!(board.cache.next, 1);
-        assert_eq!(board.cache.places[0].page, 16);
-        assert_eq!(board.cache.places[1].page, 9);
-        assert!(!board.translate(0, 1024 * 8, 4).unwrap().hit);
-        assert_eq!(board.cache.next, 2);
-        assert!(board.sound());
     }
 
     #[test]
     fn load_and_store_reach_the_frame() {
-        let mut board = board_k();
-        let mut memory = vec![0; 32768];
-        assert_eq!(board.store(&mut memory, 2, 3 * 1024 + 9, 77), Ok(()));
-        assert_eq!(memory[5 * 1024 + 9], 77);
-        assert_eq!(memory.iter().filter(|&&byte| byte != 0).count(), 1);
-        assert_eq!(board.load(&memory, 1, 9), Ok(77));
-        assert_eq!(board.load(&memory, 3, 1024 + 9), Err(Refusal::NotHeld));
-        assert_eq!(board.load(&memory[1..], 99, 0), Err(Refusal::Memory));
-        board.live[1] = false;
-        assert_eq!(board.load(&memory[1..], 99, 0), Err(Refusal::Unsound));
+        for (sizes, length) in [(Sizes::ENTRY, 32768), (Sizes::PREMIUM, 65536)] {
+            let mut board = board_k(sizes);
+            let mut memory = vec![0; length];
+            assert_eq!(board.store(&mut memory, 2, 3 * 1024 + 9, 77), Ok(()));
+            assert_eq!(memory[5 * 1024 + 9], 77);
+            assert_eq!(memory.iter().filter(|&&byte| byte != 0).count(), 1);
+            assert_eq!(board.load(&memory, 1, 9), Ok(77));
+            assert_eq!(board.load(&memory, 3, 1024 + 9), Err(Refusal::NotHeld));
+            assert_eq!(board.load(&memory[1..], 99, 0), Err(Refusal::Memory));
+            board.live[1] = false;
+            assert_eq!(board.load(&memory[1..], 99, 0), Err(Refusal::Unsound));
+        }
     }
 
     #[test]
     fn three_for_either_space_comes_before_four() {
-        let mut board = board_k();
-        assert_eq!(board.map(&lending((7, 99), (8, 99), 0)), Err(Refusal::Space));
-        assert_eq!(board.map(&lending((1, 99), (7, 0), 0)), Err(Refusal::NotLive));
-        assert_eq!(board.map(&lending((1, 0), (0, 32), 0)), Err(Refusal::Page));
+        for (sizes, space, page) in [(Sizes::ENTRY, 8, 32), (Sizes::PREMIUM, 16, 64)] {
+            let mut board = board_k(sizes);
+            assert_eq!(board.map(&lending((space - 1, 99), (space, 99), 0)), Err(Refusal::Space));
+            assert_eq!(board.map(&lending((1, 99), (space - 1, 0), 0)), Err(Refusal::NotLive));
+            assert_eq!(board.map(&lending((1, 0), (0, page), 0)), Err(Refusal::Page));
+            assert_eq!(board.map(&lending((1, 0), (0, page - 1), 0)), Err(Refusal::Rights));
+        }
     }
 
     #[test]
     fn rings_and_long_lines_are_unsound() {
-        let mut ring = board_k();
-        link(&mut ring, (1, 9), (2, 9), 7);
-        link(&mut ring, (2, 9), (1, 9), 7);
-        assert!(!ring.sound());
-        let mut itself = board_k();
-        link(&mut itself, (1, 9), (1, 9), 7);
-        assert!(!itself.sound());
-        let mut twice = board_k();
-        link(&mut twice, (1, 9), (2, 3), 4);
-        assert!(!twice.sound());
+        for sizes in Sizes::MODELS {
+            let mut ring = board_k(sizes);
+            link(&mut ring, (1, 9), (2, 9), 7);
+            link(&mut ring, (2, 9), (1, 9), 7);
+            assert!(!ring.sound());
+            let mut itself = board_k(sizes);
+            link(&mut itself, (1, 9), (1, 9), 7);
+            assert!(!itself.sound());
+            let mut twice = board_k(sizes);
+            link(&mut twice, (1, 9), (2, 3), 4);
+            assert!(!twice.sound());
+        }
     }
 
     #[test]
     fn a_line_through_every_space_is_sound() {
-        let mut board = Board::start(Sizes::ENTRY);
-        for space in 1..8u32 {
-            let _ = board.create(space);
-            board.map(&lending((space - 1, 4), (space, 4), 7)).unwrap();
+        for (sizes, spaces) in [(Sizes::ENTRY, 8), (Sizes::PREMIUM, 16)] {
+            let mut board = Board::start(sizes);
+            for space in 1..spaces {
+                let _ = board.create(space);
+                board.map(&lending((space - 1, 4), (space, 4), 7)).unwrap();
+            }
+            assert_eq!(board.line(spot(spaces as usize - 1, 4)).count(), spaces as usize);
+            assert!(board.sound());
+            assert_eq!(board.translate(spaces - 1, 4096, 7), Ok(Translation { address: 4096, hit: false }));
         }
-        assert_eq!(board.line(spot(7, 4)).count(), 8);
-        assert!(board.sound());
-        assert_eq!(board.translate(7, 4096, 7), Ok(Translation { address: 4096, hit: false }));
     }
 
     #[test]
     fn a_false_cache_is_unsound() {
-        let place = |space, page, frame, rights| Place { space, page, frame, rights };
-        let sound_with = |places: &[Place], next: usize| {
-            let mut board = board_k();
-            board.cache.places[..places.len()].copy_from_slice(places);
-            board.cache.next = next;
-            board.sound()
-        };
-        assert!(sound_with(&[place(2, 3, 5, 6)], 7));
-        assert!(!sound_with(&[place(2, 3, 5, 6)], 8), "next place out of range");
-        assert!(!sound_with(&[place(2, 3, 5, 4)], 0), "rights");
-        assert!(!sound_with(&[place(2, 3, 6, 6)], 0), "frame");
-        assert!(!sound_with(&[place(2, 5, 5, 6)], 0), "an empty page");
-        assert!(!sound_with(&[place(2, 3, 5, 6), place(2, 3, 5, 6)], 0), "twice");
-        assert!(!sound_with(&[place(2, 3, 5, 0)], 0), "half empty");
-        assert!(!sound_with(&[place(8, 3, 5, 6)], 0), "no space");
+        for (sizes, places, spaces) in [(Sizes::ENTRY, 8, 8), (Sizes::PREMIUM, 16, 16)] {
+            let place = |space, page, frame, rights| Place { space, page, frame, rights };
+            let sound_with = |places: &[Place], next: usize| {
+                let mut board = board_k(sizes);
+                board.cache.places[..places.len()].copy_from_slice(places);
+                board.cache.next = next;
+                board.sound()
+            };
+            assert!(sound_with(&[place(2, 3, 5, 6)], places - 1));
+            assert!(!sound_with(&[place(2, 3, 5, 6)], places), "next place out of range");
+            assert!(!sound_with(&[place(2, 3, 5, 4)], 0), "rights");
+            assert!(!sound_with(&[place(2, 3, 6, 6)], 0), "frame");
+            assert!(!sound_with(&[place(2, 5, 5, 6)], 0), "an empty page");
+            assert!(!sound_with(&[place(2, 3, 5, 6), place(2, 3, 5, 6)], 0), "twice");
+            assert!(!sound_with(&[place(2, 3, 5, 0)], 0), "half empty");
+            assert!(!sound_with(&[place(spaces, 3, 5, 6)], 0), "no space");
+        }
     }
 }

@@ -141,6 +141,44 @@ impl Call {
     }
 }
 
+/// The numbers that a call names.
+impl Call {
+    pub fn spaces(&self) -> Vec<u32> {
+        match *self {
+            Call::Start | Call::Sound => vec![],
+            Call::Create { space } | Call::Delete { space } => vec![space],
+            Call::Unmap(asked) | Call::Flush(asked) => vec![asked.space],
+            Call::Map(asked) | Call::Grant(asked) => vec![asked.from, asked.to],
+            Call::Translate { space, .. } | Call::Load { space, .. } | Call::Store { space, .. } => vec![space],
+            Call::UnmapRange(asked) | Call::FlushRange(asked) => vec![asked.space],
+            Call::MapRange(asked) | Call::GrantRange(asked) => vec![asked.from, asked.to],
+        }
+    }
+
+    pub fn pages(&self) -> Vec<u32> {
+        match *self {
+            Call::Unmap(asked) | Call::Flush(asked) => vec![asked.page],
+            Call::Map(asked) | Call::Grant(asked) => vec![asked.page, asked.at],
+            _ => vec![],
+        }
+    }
+
+    pub fn address(&self) -> Option<u32> {
+        match *self {
+            Call::Translate { address, .. } | Call::Load { address, .. } | Call::Store { address, .. } => Some(address),
+            _ => None,
+        }
+    }
+
+    pub fn ranges(&self) -> Vec<Range> {
+        match *self {
+            Call::UnmapRange(asked) | Call::FlushRange(asked) => vec![asked.range],
+            Call::MapRange(asked) | Call::GrantRange(asked) => vec![asked.given, asked.taken],
+            _ => vec![],
+        }
+    }
+}
+
 impl Kind {
     /// How many kinds there are.
     pub const COUNT: usize = 15;
@@ -182,6 +220,19 @@ impl Kind {
         Kind::FlushRange,
         Kind::MapRange,
         Kind::GrantRange,
+    ];
+
+    /// The calls for one page or one space.
+    pub const ONE_PAGE: [Kind; 9] = [
+        Kind::Create,
+        Kind::Delete,
+        Kind::Unmap,
+        Kind::Flush,
+        Kind::Map,
+        Kind::Grant,
+        Kind::Translate,
+        Kind::Load,
+        Kind::Store,
     ];
 
     pub fn name(self) -> &'static str {

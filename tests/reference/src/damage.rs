@@ -4,6 +4,7 @@ use crate::board::{spot, Board, Link, Place, Slot, Spot};
 use crate::calls::ALL_RIGHTS;
 use crate::image;
 use crate::random::Random;
+use crate::sizes::Sizes;
 
 /// A way to damage an image.
 #[derive(Clone, Copy, Debug, PartialEq, Eq)]
@@ -61,22 +62,40 @@ impl Damage {
 }
 
 /// Goes through every byte of the image with each of a list of values, over and over.
-#[derive(Clone, Debug, Default)]
+#[derive(Clone, Debug)]
 pub struct Sweep {
+    /// The kinds of a slot and what is past them, the ends of the model's limits, and the ends of a byte.
+    values: Vec<u8>,
+    /// Every byte with every value.
+    round: usize,
     turn: usize,
 }
 
 impl Sweep {
-    const VALUES: [u8; 12] = [0, 1, 2, 3, 7, 8, 16, 31, 32, 64, 128, 255];
+    /// How far one turn goes, so that a part of a round is spread over the whole image. A prime that divides no model's round.
+    const STRIDE: usize = 7919;
+
+    pub fn new(sizes: Sizes) -> Sweep {
+        let rights = ALL_RIGHTS as usize;
+        let (spaces, pages) = (sizes.spaces, sizes.pages);
+        let mut values: Vec<u8> =
+            [0, 1, 2, 3, rights, rights + 1, spaces - 1, spaces, 2 * spaces, pages - 1, pages, 2 * pages, 128, 255]
+                .map(|value| value as u8)
+                .to_vec();
+        values.sort();
+        values.dedup();
+        let round = values.len() * sizes.image();
+        Sweep { values, round, turn: 0 }
+    }
 
     /// How many times every byte has had every value, in hundredths.
-    pub fn hundredths(&self, image_length: usize) -> usize {
-        100 * self.turn / (Sweep::VALUES.len() * image_length)
+    pub fn hundredths(&self) -> usize {
+        100 * self.turn / self.round
     }
 
     fn change(&mut self, bytes: &mut [u8]) {
-        let at = self.turn / Sweep::VALUES.len() % bytes.len();
-        bytes[at] = Sweep::VALUES[self.turn % Sweep::VALUES.len()];
+        let step = self.turn * Sweep::STRIDE % self.round;
+        bytes[step / self.values.len()] = self.values[step % self.values.len()];
         self.turn += 1;
     }
 }
@@ -89,7 +108,7 @@ pub fn damaged(random: &mut Random, board: &Board, damage: Damage, sweep: &mut S
         Damage::AnyBytes => (0..board.sizes.image()).map(|_| random.byte()).collect(),
         Damage::SwappedRecords => damaged_bytes(board, |bytes| swap_records(random, board, bytes)),
         Damage::UnusedByte => damaged_bytes(board, |bytes| unused_byte(random, board, bytes)),
-        Damage::Length => damaged_bytes(board, |bytes| length(random, bytes)),
+        Damage::Length => damaged_bytes(board, |bytes| length(random, board.sizes, bytes)),
         Damage::PoolPage => damaged_board(board, |board| pool_page(random, board)),
         Damage::PoolNotLive => damaged_board(board, |board| board.live[random.below(2)] = false),
         Damage::FrameOutsidePool => damaged_board(board, |board| frame_outside_pool(random, board)),
@@ -156,10 +175,12 @@ fn unused_byte(random: &mut Random, board: &Board, bytes: &mut [u8]) {
     }
 }
 
-fn length(random: &mut Random, bytes: &mut Vec<u8>) {
+/// Any length but the right one, that of the other model too.
+fn length(random: &mut Random, sizes: Sizes, bytes: &mut Vec<u8>) {
     let right = bytes.len();
     let any = random.below(3 * right);
-    let length = random.pick(&[0, 1, 4, right - 1, right + 1, right - 4, right + 4, right & !1023, 2 * right, any]);
+    let other = sizes.other().image();
+    let length = random.pick(&[0, 1, 4, right - 1, right + 1, right - 4, right + 4, right & !1023, 2 * right, other, any]);
     let fill = random.pick(&[0, 1, 255]);
     bytes.resize(length, fill);
 }
@@ -350,48 +371,66 @@ fn next_place(random: &mut Random, board: &mut Board) {
 mod tests {
     use super::*;
     use crate::sessions::random_board;
-    use crate::sizes::Sizes;
 
-    fn sound(bytes: &[u8]) -> bool {
-        image::decode(Sizes::ENTRY, bytes).is_some_and(|board| board.sound())
+    fn sound(sizes: Sizes, bytes: &[u8]) -> bool {
+        image::decode(sizes, bytes).is_some_and(|board| board.sound())
+    }
+
+    /// How many of so many random boards a damage leaves unsound.
+    fn unsound(sizes: Sizes, damage: Damage, boards: usize) -> usize {
+        let mut random = Random::new(21);
+        let mut sweep = Sweep::new(sizes);
+        (0..boards)
+            .filter(|_| {
+                let board = random_board(&mut random, sizes);
+                !sound(sizes, &damaged(&mut random, &board, damage, &mut sweep))
+            })
+            .count()
     }
 
     #[test]
     fn every_damage_is_mostly_unsound() {
-        let mut sweep = Sweep::default();
-        for damage in Damage::ALL {
-            let mut random = Random::new(21);
-            let unsound = (0..300)
-                .filter(|_| {
-                    let board = random_board(&mut random, Sizes::ENTRY);
-                    !sound(&damaged(&mut random, &board, damage, &mut sweep))
-                })
-                .count();
-            assert!(unsound > 120, "{damage:?}: {unsound} of 300");
+        for (sizes, boards) in [(Sizes::ENTRY, 300), (Sizes::PREMIUM, 50)] {
+            for damage in Damage::ALL {
+                let unsound = unsound(sizes, damage, boards);
+                assert!(5 * unsound > 2 * boards, "{damage:?}: {unsound} of {boards}");
+            }
         }
     }
 
     #[test]
     fn damage_of_the_start_board_is_possible() {
-        let board = Board::start(Sizes::ENTRY);
-        let mut random = Random::new(22);
-        for damage in Damage::ALL.iter().cycle().take(2000) {
-            damaged(&mut random, &board, *damage, &mut Sweep::default());
+        for sizes in Sizes::MODELS {
+            let board = Board::start(sizes);
+            let mut random = Random::new(22);
+            for damage in Damage::ALL.iter().cycle().take(2000) {
+                damaged(&mut random, &board, *damage, &mut Sweep::new(sizes));
+            }
         }
     }
 
     #[test]
-    fn a_round_of_the_sweep_changes_every_byte() {
-        let board = Board::start(Sizes::ENTRY);
-        let before = image::encode(&board);
-        let mut changed = vec![false; before.len()];
-        let mut sweep = Sweep::default();
-        while sweep.hundredths(before.len()) < 100 {
-            let after = damaged(&mut Random::new(0), &board, Damage::Field, &mut sweep);
-            for at in (0..before.len()).filter(|&at| before[at] != after[at]) {
-                changed[at] = true;
+    fn the_telling_values_go_to_the_limits_of_the_model() {
+        assert_eq!(Sweep::new(Sizes::ENTRY).values, [0, 1, 2, 3, 7, 8, 16, 31, 32, 64, 128, 255]);
+        assert_eq!(Sweep::new(Sizes::PREMIUM).values, [0, 1, 2, 3, 7, 8, 15, 16, 32, 63, 64, 128, 255]);
+    }
+
+    #[test]
+    fn a_round_of_the_sweep_gives_every_byte_every_value() {
+        for sizes in Sizes::MODELS {
+            let mut sweep = Sweep::new(sizes);
+            let mut values = vec![Vec::new(); sizes.image()];
+            while sweep.hundredths() < 100 {
+                // 4 is no telling value, so the byte that is not 4 is the one that was changed
+                let mut bytes = vec![4; sizes.image()];
+                sweep.change(&mut bytes);
+                let at = bytes.iter().position(|&byte| byte != 4).expect("one is changed");
+                values[at].push(bytes[at]);
+            }
+            for mut seen in values {
+                seen.sort();
+                assert_eq!(seen, sweep.values);
             }
         }
-        assert!(changed.iter().all(|&byte| byte));
     }
 }

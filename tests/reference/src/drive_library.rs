@@ -55,7 +55,7 @@ pub struct Driver<'a> {
 
 impl<'a> Driver<'a> {
     pub fn new(sizes: Sizes, subject: &'a mut dyn Subject) -> Driver<'a> {
-        Driver { sizes, subject, tally: Tally::default(), passed: 0, sweep: Sweep::default() }
+        Driver { sizes, subject, tally: Tally::new(sizes), passed: 0, sweep: Sweep::new(sizes) }
     }
 
     /// Drives the subject until the limit. A report if a call differed.
@@ -74,7 +74,7 @@ impl<'a> Driver<'a> {
 
     /// How many times every byte of an image had every telling value, in hundredths.
     pub fn sweep_hundredths(&self) -> usize {
-        self.sweep.hundredths(self.sizes.image())
+        self.sweep.hundredths()
     }
 
     // ---- what is tried -------------------------------------------------------------------------------------------------------
@@ -85,7 +85,7 @@ impl<'a> Driver<'a> {
         let mut world = start.clone();
         let mut calls = Vec::new();
         let mut composer = Composer::new(&Kind::BOARD);
-        for _ in 0..random.between(200, 3000) {
+        for _ in 0..random.between(100, 1500) {
             if limit.over(self.passed) {
                 break;
             }
@@ -105,7 +105,7 @@ impl<'a> Driver<'a> {
     }
 
     fn start_world(&self, random: &mut Random) -> World {
-        let board = if random.chance(60) { Board::start(self.sizes) } else { random_board(random, self.sizes) };
+        let board = if random.chance(40) { Board::start(self.sizes) } else { random_board(random, self.sizes) };
         World { image: image::encode(&board), memory: patterned_memory(self.sizes) }
     }
 
@@ -127,7 +127,11 @@ impl<'a> Driver<'a> {
     }
 
     fn with_damaged_image(&mut self, random: &mut Random, board: &Board, world: World) -> World {
-        let damage = if random.chance(60) { Damage::Field } else { random.pick(&Damage::ALL) };
+        let damage = match random.below(100) {
+            0..=54 => Damage::Field,
+            55..=59 => Damage::Length,
+            _ => random.pick(&Damage::ALL),
+        };
         self.tally.count_named(format!("{damage:?}"));
         World { image: damaged(random, board, damage, &mut self.sweep), ..world }
     }
@@ -249,21 +253,22 @@ impl<'a> Driver<'a> {
 }
 
 /// Memory in which neighbours, and the same places of two frames, differ.
-fn patterned_memory(sizes: Sizes) -> Vec<u8> {
+pub fn patterned_memory(sizes: Sizes) -> Vec<u8> {
     (0..sizes.memory()).map(|at| (7 * at + 13 * (at / PAGE_BYTES) + 1) as u8).collect()
 }
 
+/// Any length but the right one, that of the other model too.
 fn wrong_length(random: &mut Random, right: usize) -> usize {
     let any = random.below(right);
-    random.pick(&[0, 1, PAGE_BYTES, right - 1, right + 1, right - PAGE_BYTES, right + PAGE_BYTES, 2 * right, any])
+    random.pick(&[0, 1, PAGE_BYTES, right - 1, right + 1, right - PAGE_BYTES, right + PAGE_BYTES, right / 2, 2 * right, any])
 }
 
 /// One to three calls for a board; often sound, seldom start.
 fn trip_calls(random: &mut Random, board: &Board, kinds: &[Kind]) -> Vec<Call> {
     (0..random.between(1, 3))
         .map(|_| match random.below(30) {
-            0 => Call::Start,
-            1..=9 => Call::Sound,
+            0 | 1 => Call::Start,
+            2..=9 => Call::Sound,
             _ => {
                 let kind = random.pick(kinds);
                 let slack = random.pick(&[0, 10, 40, 60]);
@@ -274,7 +279,7 @@ fn trip_calls(random: &mut Random, board: &Board, kinds: &[Kind]) -> Vec<Call> {
 }
 
 /// The bytes in these ranges; all others 0.
-fn only(bytes: &[u8], kept: &[std::ops::Range<usize>]) -> Vec<u8> {
+pub fn only(bytes: &[u8], kept: &[std::ops::Range<usize>]) -> Vec<u8> {
     let mut only = vec![0; bytes.len()];
     for range in kept {
         only[range.clone()].copy_from_slice(&bytes[range.clone()]);
@@ -283,7 +288,7 @@ fn only(bytes: &[u8], kept: &[std::ops::Range<usize>]) -> Vec<u8> {
 }
 
 /// A world: the records that are not as in the start board, the whole image, and the bytes of memory other than 0.
-fn show_world(sizes: Sizes, world: &World) -> String {
+pub fn show_world(sizes: Sizes, world: &World) -> String {
     let mut text = format!("from this image of {} bytes:\n", world.image.len());
     for chunk in world.image.chunks(64) {
         let hex: String = chunk.iter().map(|byte| format!("{byte:02x}")).collect();
@@ -340,44 +345,52 @@ fn show_mismatch(sizes: Sizes, mismatch: &Mismatch) -> String {
 #[cfg(test)]
 mod tests {
     use super::*;
+    use crate::left::Left;
     use crate::wrong::{Fault, Wrong};
 
-    /// Drives a wrong model; the report, and how many calls were alike before.
-    fn drive_wrong(fault: Fault, seed: u64) -> (Option<String>, u64) {
-        let mut wrong = Wrong(fault);
-        let mut driver = Driver::new(Sizes::ENTRY, &mut wrong);
-        let count = if Fault::OF_01.contains(&fault) { 5_000 } else { 20_000 };
-        let report = driver.drive(seed, &Limit { count: Some(count), until: None });
-        (report, driver.passed)
+    /// Drives a wrong model for so many calls: the report.
+    fn drive_wrong(sizes: Sizes, wrong: &mut dyn Subject, seed: u64, count: u64) -> Option<String> {
+        Driver::new(sizes, wrong).drive(seed, &Limit { count: Some(count), until: None })
     }
 
     #[test]
     fn the_model_agrees_with_itself_and_reaches_every_answer() {
-        let mut model = Model(Sizes::ENTRY);
-        let mut driver = Driver::new(Sizes::ENTRY, &mut model);
-        let report = driver.drive(1, &Limit { count: Some(40_000), until: None });
-        assert_eq!((report, driver.passed), (None, 40_000));
-        assert_eq!(driver.tally.missing_of_library(), Vec::<String>::new());
+        for sizes in Sizes::MODELS {
+            let mut model = Model(sizes);
+            let mut driver = Driver::new(sizes, &mut model);
+            let report = driver.drive(1, &Limit { count: Some(40_000), until: None });
+            assert_eq!(report, None);
+            assert!(driver.passed >= 40_000, "a side trip may go past the limit");
+            assert_eq!(driver.tally.missing_of_library(), Vec::<String>::new());
+        }
     }
 
     #[test]
     fn every_wrong_model_is_told_apart() {
         let mut missed = Vec::new();
-        for fault in Fault::ALL {
-            for seed in 1..=3 {
-                let (report, passed) = drive_wrong(fault, seed);
-                println!("{fault:?}, seed {seed}: {passed} calls alike before the first that differs");
-                if report.is_none() {
-                    missed.push((fault, seed));
-                }
+        for (sizes, seeds) in [(Sizes::ENTRY, 1..=3), (Sizes::PREMIUM, 1..=1)] {
+            for fault in Fault::ALL {
+                let count = if Fault::OF_01.contains(&fault) { 5_000 } else { 20_000 };
+                let unseen = |seed: &u64| drive_wrong(sizes, &mut Wrong(sizes, fault), *seed, count).is_none();
+                missed.extend(seeds.clone().filter(unseen).map(|seed| (sizes.name(), fault, seed)));
             }
         }
-        assert_eq!(missed, Vec::new());
+        assert_eq!(missed, []);
+    }
+
+    #[test]
+    fn every_limit_that_was_left_in_the_premium_model_is_told_apart() {
+        let mut missed = Vec::new();
+        for left in Left::ALL {
+            let unseen = |seed: &u64| drive_wrong(Sizes::PREMIUM, &mut { left }, *seed, 10_000).is_none();
+            missed.extend((1..=2).filter(unseen).map(|seed| (left, seed)));
+        }
+        assert_eq!(missed, []);
     }
 
     #[test]
     fn a_report_has_one_call_and_what_differs() {
-        let (report, _) = drive_wrong(Fault::GrantSparesBelow, 1);
+        let report = drive_wrong(Sizes::ENTRY, &mut Wrong(Sizes::ENTRY, Fault::GrantSparesBelow), 1, 5_000);
         let report = report.unwrap();
         assert_eq!(report.matches("Grant(").count(), 1, "{report}");
         assert!(report.contains("call 1 differs"), "{report}");
@@ -405,12 +418,5 @@ mod tests {
         let mut forgetful = Forgetful { loads: 0 };
         let mut driver = Driver::new(Sizes::ENTRY, &mut forgetful);
         assert!(driver.drive(1, &Limit { count: Some(5000), until: None }).is_some());
-    }
-
-    #[test]
-    fn the_premium_sizes_run_too() {
-        let mut model = Model(Sizes::PREMIUM);
-        let mut driver = Driver::new(Sizes::PREMIUM, &mut model);
-        assert!(driver.drive(1, &Limit { count: Some(500), until: None }).is_none());
     }
 }

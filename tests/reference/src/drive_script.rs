@@ -1,5 +1,6 @@
 //! Holds a script program against the model: random sessions, outputs compared byte for byte.
 
+use crate::command::command;
 use crate::random::Random;
 use crate::script;
 use crate::sessions::{edge_sessions, random_session};
@@ -7,7 +8,7 @@ use crate::shrink::shrink;
 use crate::sizes::Sizes;
 use crate::tally::{Limit, Tally};
 use std::io::{Read, Write};
-use std::process::{Child, Command, Stdio};
+use std::process::{Child, Stdio};
 use std::sync::mpsc;
 use std::thread;
 use std::time::{Duration, Instant};
@@ -55,7 +56,7 @@ pub fn drive(
     limit: &Limit,
     tally: &mut Tally,
 ) -> (u64, Option<Difference>) {
-    let edges = edge_sessions();
+    let edges = edge_sessions(sizes);
     let mut passed = 0;
     for part in 0.. {
         if limit.over(passed) {
@@ -184,10 +185,9 @@ fn first_difference(expected: &[u8], seen: &Outcome) -> String {
 
 // ---- a program of its own ----------------------------------------------------------------------------------------------------
 
-/// Runs a program once on an input.
-pub fn run_program(path: &str, input: &[u8]) -> Outcome {
-    let started = Command::new(path).stdin(Stdio::piped()).stdout(Stdio::piped()).stderr(Stdio::piped()).spawn();
-    match started {
+/// Runs a program, a command and its words, once on an input.
+pub fn run_program(line: &str, input: &[u8]) -> Outcome {
+    match command(line).stderr(Stdio::piped()).spawn() {
         Ok(child) => converse(child, input),
         Err(error) => Outcome::failed(format!("did not start: {error}")),
     }
@@ -252,7 +252,7 @@ mod tests {
     /// Drives a wrong program, which has to be told apart.
     fn caught(name: &str, mut wrong: impl FnMut(&[u8]) -> Vec<u8>) {
         let mut program = |input: &[u8]| Outcome::plain(wrong(input));
-        let (_, difference) = drive(Sizes::ENTRY, &mut program, 5, &LIMIT, &mut Tally::default());
+        let (_, difference) = drive(Sizes::ENTRY, &mut program, 5, &LIMIT, &mut Tally::new(Sizes::ENTRY));
         assert!(difference.is_some(), "{name} was not told apart");
     }
 
@@ -272,10 +272,24 @@ mod tests {
 
     #[test]
     fn the_model_agrees_with_itself_and_reaches_every_answer() {
-        let mut tally = Tally::default();
-        let (passed, difference) = drive(Sizes::ENTRY, &mut |input| Outcome::plain(right(input)), 5, &LIMIT, &mut tally);
-        assert_eq!((passed, difference.is_none()), (400, true));
-        assert_eq!(tally.missing_of_script(), Vec::<String>::new());
+        for (sizes, count) in [(Sizes::ENTRY, 400), (Sizes::PREMIUM, 150)] {
+            let mut tally = Tally::new(sizes);
+            let mut program = |input: &[u8]| Outcome::plain(script::answer(sizes, input));
+            let limit = Limit { count: Some(count), until: None };
+            let (passed, difference) = drive(sizes, &mut program, 5, &limit, &mut tally);
+            assert_eq!((passed, difference.is_none()), (count, true));
+            assert_eq!(tally.missing_of_script(), Vec::<String>::new());
+        }
+    }
+
+    /// The program of one model, held against the other model.
+    #[test]
+    fn the_other_model_is_told_apart() {
+        for sizes in Sizes::MODELS {
+            let mut program = |input: &[u8]| Outcome::plain(script::answer(sizes.other(), input));
+            let (_, difference) = drive(sizes, &mut program, 5, &LIMIT, &mut Tally::new(sizes));
+            assert!(difference.is_some());
+        }
     }
 
     #[test]
@@ -327,7 +341,7 @@ mod tests {
         caught("no last newline", |input| without_end(&right(input), b'\n'));
         caught("cut", |input| right(input).into_iter().take(500_000).collect());
         let exit = |input: &[u8]| Outcome { output: right(input), complaint: Some("ended with 1".into()) };
-        assert!(drive(Sizes::ENTRY, &mut { exit }, 5, &LIMIT, &mut Tally::default()).1.is_some());
+        assert!(drive(Sizes::ENTRY, &mut { exit }, 5, &LIMIT, &mut Tally::new(Sizes::ENTRY)).1.is_some());
     }
 
     #[test]
@@ -351,7 +365,7 @@ mod tests {
             let answers = String::from_utf8(right(input)).unwrap();
             Outcome::plain(answers.replace("answer=14", "answer=15").into_bytes())
         };
-        let (_, difference) = drive(Sizes::ENTRY, &mut program, 5, &LIMIT, &mut Tally::default());
+        let (_, difference) = drive(Sizes::ENTRY, &mut program, 5, &LIMIT, &mut Tally::new(Sizes::ENTRY));
         let report = report(Sizes::ENTRY, &mut program, 5, &difference.unwrap());
         assert!(report.contains("no line can be left out"), "{report}");
         assert!(report.contains("answer=14") && report.contains("answer=15"), "{report}");
@@ -365,5 +379,6 @@ mod tests {
         assert_eq!(run_program("/bin/cat", &large).output.len(), 300_000);
         assert!(run_program("/bin/false", &large).complaint.is_some());
         assert!(run_program("/no/such/program", b"").complaint.is_some());
+        assert_eq!(run_program("/usr/bin/env cat", b"a"), Outcome::plain(b"a".to_vec()));
     }
 }

@@ -127,10 +127,11 @@ mod tests {
     use crate::random::Random;
 
     const ENTRY: Sizes = Sizes::ENTRY;
+    const PREMIUM: Sizes = Sizes::PREMIUM;
 
     #[test]
     fn the_image_of_k() {
-        let mut board = board_k();
+        let mut board = board_k(ENTRY);
         board.translate(2, 3 * 1024, 4).unwrap();
         board.cache.next = 5;
         let image = encode(&board);
@@ -144,59 +145,82 @@ mod tests {
     }
 
     #[test]
+    fn the_premium_image_of_k() {
+        let mut board = board_k(PREMIUM);
+        board.translate(2, 3 * 1024, 4).unwrap();
+        board.cache.next = 13;
+        let image = encode(&board);
+        assert_eq!(image.len(), 4177);
+        assert_eq!(image[4 * 63..4 * 66], [1, 63, 0, 7, 2, 0, 5, 7, 0, 0, 0, 0]);
+        assert_eq!(image[4 * (64 * 2 + 3)..][..4], [2, 1, 0, 6]);
+        assert_eq!(image[4096..4112], [1, 1, 1, 1, 1, 0, 0, 0, 0, 0, 0, 0, 0, 0, 0, 0]);
+        assert_eq!(image[4112..4120], [2, 3, 5, 6, 0, 0, 0, 0]);
+        assert_eq!(image[4176], 13);
+        assert_eq!(decode(PREMIUM, &image), Some(board));
+    }
+
+    #[test]
     fn bytes_that_are_no_board_s() {
-        let image = encode(&board_k());
-        let with = |at: usize, byte: u8| {
-            let mut changed = image.clone();
-            changed[at] = byte;
-            decode(ENTRY, &changed)
-        };
-        assert_eq!(with(0, 3), None, "kind");
-        assert_eq!(with(2, 1), None, "after the frame");
-        assert_eq!(with(4 * 40 + 1, 1), None, "of an empty page");
-        assert_eq!(with(4 * 40 + 2, 1), None, "of an empty page");
-        assert_eq!(with(1024, 2), None, "live");
-        assert!(with(4 * 40 + 3, 1).is_some_and(|board| !board.sound()), "rights without a link");
-        assert_eq!(decode(ENTRY, &image[1..]), None);
-        assert_eq!(decode(ENTRY, &[]), None);
+        for (sizes, live) in [(ENTRY, 1024), (PREMIUM, 4096)] {
+            let image = encode(&board_k(sizes));
+            let with = |at: usize, byte: u8| {
+                let mut changed = image.clone();
+                changed[at] = byte;
+                decode(sizes, &changed)
+            };
+            let empty = 4 * (sizes.pages + 8);
+            assert_eq!(with(0, 3), None, "kind");
+            assert_eq!(with(2, 1), None, "after the frame");
+            assert_eq!(with(empty + 1, 1), None, "of an empty page");
+            assert_eq!(with(empty + 2, 1), None, "of an empty page");
+            assert_eq!(with(live, 2), None, "live");
+            assert!(with(empty + 3, 1).is_some_and(|board| !board.sound()), "rights without a link");
+            assert_eq!(decode(sizes, &image[1..]), None);
+            assert_eq!(decode(sizes, &[]), None);
+            assert_eq!(decode(sizes.other(), &image), None);
+        }
     }
 
     #[test]
     fn decoding_loses_nothing() {
-        let mut random = Random::new(5);
-        let mut decoded = 0;
-        for _ in 0..20_000 {
-            let mut image = encode(&board_k());
-            for _ in 0..3 {
-                let at = random.below(image.len());
-                image[at] = random.byte() % 8;
+        for sizes in Sizes::MODELS {
+            let mut random = Random::new(5);
+            let mut decoded = 0;
+            for _ in 0..20_000 {
+                let mut image = encode(&board_k(sizes));
+                for _ in 0..3 {
+                    let at = random.below(image.len());
+                    image[at] = random.byte() % 8;
+                }
+                if let Some(board) = decode(sizes, &image) {
+                    assert_eq!(encode(&board), image);
+                    decoded += 1;
+                }
             }
-            if let Some(board) = decode(ENTRY, &image) {
-                assert_eq!(encode(&board), image);
-                decoded += 1;
-            }
+            assert!(decoded > 500);
         }
-        assert!(decoded > 500);
     }
 
     #[test]
     fn calls_over_what_is_no_image() {
-        let mut image = vec![9; 1065];
-        let kept = image.clone();
-        assert_eq!(play(ENTRY, &mut image, &mut [], &Call::Create { space: 2 }), Reply::bare(1));
-        assert_eq!(play(ENTRY, &mut image, &mut [], &Call::Sound), Reply::bare(0));
-        assert_eq!(image, kept);
-        assert_eq!(play(ENTRY, &mut image[1..], &mut [], &Call::Start), Reply::bare(1));
-        assert_eq!(image, kept);
-        assert_eq!(play(ENTRY, &mut image, &mut [], &Call::Start), Reply::bare(0));
-        assert_eq!(image, encode(&Board::start(ENTRY)));
-        assert_eq!(play(ENTRY, &mut image, &mut [], &Call::Sound), Reply::bare(1));
-        assert_eq!(play(ENTRY, &mut image[1..], &mut [], &Call::Sound), Reply::bare(0));
+        for (sizes, length) in [(ENTRY, 1065), (PREMIUM, 4177)] {
+            let mut image = vec![9; length];
+            let kept = image.clone();
+            assert_eq!(play(sizes, &mut image, &mut [], &Call::Create { space: 2 }), Reply::bare(1));
+            assert_eq!(play(sizes, &mut image, &mut [], &Call::Sound), Reply::bare(0));
+            assert_eq!(image, kept);
+            assert_eq!(play(sizes, &mut image[1..], &mut [], &Call::Start), Reply::bare(1));
+            assert_eq!(image, kept);
+            assert_eq!(play(sizes, &mut image, &mut [], &Call::Start), Reply::bare(0));
+            assert_eq!(image, encode(&Board::start(sizes)));
+            assert_eq!(play(sizes, &mut image, &mut [], &Call::Sound), Reply::bare(1));
+            assert_eq!(play(sizes, &mut image[1..], &mut [], &Call::Sound), Reply::bare(0));
+        }
     }
 
     #[test]
     fn records_cover_the_image() {
-        for sizes in [Sizes::ENTRY, Sizes::PREMIUM] {
+        for sizes in Sizes::MODELS {
             let records = records(sizes);
             let mut end = 0;
             for record in &records {

@@ -3,15 +3,21 @@
 //!
 //! * the model: `sizes`, `calls`, `board`, `range`, `script`, `image`
 //! * what is tried: `random`, `sessions` (calls and scripts), `lines` (malformed lines), `damage` (damaged images)
-//! * the comparison: `shrink`, `tally`, `drive_script`, `drive_library`, and `served` (the C functions, through a driver process)
-//! * `wrong` (tests only): deliberately wrong models, which the comparison has to tell apart
+//! * the comparison: `shrink`, `tally` and `corners`, `drive_script`, `drive_library`, `drive_both` (the two models beside each
+//!   other), and `served` (the C functions, through a driver process; `command` starts it)
+//! * `wrong` and `left` (tests only): deliberately wrong models, which the comparison has to tell apart
 
 pub mod board;
 pub mod calls;
+pub mod command;
+pub mod corners;
 pub mod damage;
+pub mod drive_both;
 pub mod drive_library;
 pub mod drive_script;
 pub mod image;
+#[cfg(test)]
+mod left;
 pub mod lines;
 pub mod random;
 pub mod range;

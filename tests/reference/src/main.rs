@@ -1,17 +1,23 @@
 //! Holds the proved page-lending board against the model.
 //!
 //! ```text
-//! reference script --program PATH    random scripts through the script program at PATH
+//! reference script --program COMMAND   random scripts through the script program
 //! reference library --driver COMMAND   random calls on the C functions, which a driver process serves
-//! reference rehearse                 both, with the model in the place of the implementation: what is reached
-//! reference answer                   the model's answers to the script on standard input
+//! reference both --driver COMMAND --premium-driver COMMAND   the same calls on both models
+//! reference rehearse                   all three, with the model in the place of the implementation: what is reached
+//! reference answer                     the model's answers to the script on standard input
 //! ```
 //!
-//! Options: `--seed N` (1 if not given), `--count N` (sessions or calls), `--seconds N`. With neither of the last two a mode runs
-//! for about 60 seconds. The last line is `N passed, 0 failed` and the exit status 0 if nothing differed and every answer
-//! occurred; the status is 1 if not, and 2 if the request cannot be read.
+//! A COMMAND is a program and its words, parted by spaces.
+//!
+//! Options: `--model entry` (if not given) or `--model premium`, which `both` has no use for; `--seed N` (1 if not given),
+//! `--count N` (sessions or calls), `--seconds N`. With neither of the last two a mode runs for about 60 seconds. The last line
+//! is `N passed, 0 failed` and the exit status 0 if nothing differed and every answer and corner occurred; the status is 1 if
+//! not, and 2 if the request cannot be read.
 
 use reference::calls::Kind;
+use reference::command::is_there;
+use reference::drive_both::Both;
 use reference::drive_library::{Driver, Model, Subject};
 use reference::drive_script::{self, run_program, Outcome};
 use reference::script;
@@ -23,39 +29,54 @@ use std::process::ExitCode;
 use std::time::{Duration, Instant};
 
 const USAGE: &str =
-    "reference script --program PATH | library --driver COMMAND | rehearse | answer  [--seed N] [--count N] [--seconds N]";
+    "reference script --program COMMAND | library --driver COMMAND | both --driver COMMAND --premium-driver COMMAND \
+    | rehearse | answer  [--model entry|premium] [--seed N] [--count N] [--seconds N]";
 const DEFAULT_SECONDS: u64 = 60;
 
-#[derive(Debug, Default)]
+#[derive(Debug)]
 struct Options {
     mode: String,
+    sizes: Sizes,
     program: Option<String>,
     driver: Option<String>,
-    seed: Option<u64>,
+    premium_driver: Option<String>,
+    seed: u64,
     count: Option<u64>,
     seconds: Option<u64>,
 }
 
 impl Options {
+    /// What holds where no option is given.
+    fn new(mode: String) -> Options {
+        Options {
+            mode,
+            sizes: Sizes::ENTRY,
+            program: None,
+            driver: None,
+            premium_driver: None,
+            seed: 1,
+            count: None,
+            seconds: None,
+        }
+    }
+
     fn read(mut arguments: impl Iterator<Item = String>) -> Result<Options, String> {
-        let mut options = Options { mode: arguments.next().ok_or("no mode")?, ..Options::default() };
+        let mut options = Options::new(arguments.next().ok_or("no mode")?);
         while let Some(name) = arguments.next() {
             let value = arguments.next().ok_or(format!("{name} has no value"))?;
             let number = || value.parse::<u64>().map_err(|_| format!("{name} {value}: not a number"));
             match name.as_str() {
+                "--model" => options.sizes = Sizes::named(&value).ok_or(format!("{value} is no model"))?,
                 "--program" => options.program = Some(value),
                 "--driver" => options.driver = Some(value),
-                "--seed" => options.seed = Some(number()?),
+                "--premium-driver" => options.premium_driver = Some(value),
+                "--seed" => options.seed = number()?,
                 "--count" => options.count = Some(number()?),
                 "--seconds" => options.seconds = Some(number()?),
                 _ => return Err(format!("{name} is no option")),
             }
         }
         Ok(options)
-    }
-
-    fn seed(&self) -> u64 {
-        self.seed.unwrap_or(1)
     }
 
     /// From now on. A count alone has no limit of time.
@@ -85,53 +106,71 @@ fn main() -> ExitCode {
 fn run(options: &Options) -> Result<bool, String> {
     match options.mode.as_str() {
         "script" => {
-            let path = options.program.as_deref().ok_or("script needs --program PATH")?;
-            if !std::path::Path::new(path).is_file() {
-                return Err(format!("{path} is no file"));
+            let line = options.program.as_deref().ok_or("script needs --program COMMAND")?;
+            if !is_there(line) {
+                return Err(format!("{line}: no such file"));
             }
-            Ok(drive_scripts(options, &mut |input| run_program(path, input)))
+            Ok(drive_scripts(options, &mut |input| run_program(line, input)))
         }
-        "library" => library(options),
-        "rehearse" => {
-            let scripts = drive_scripts(options, &mut |input| Outcome::plain(script::answer(Sizes::ENTRY, input)));
-            Ok(drive_calls(options, &mut Model(Sizes::ENTRY)) && scripts)
+        "library" => Ok(drive_calls(options, &mut served(&options.driver, "--driver")?)),
+        "both" => {
+            let mut entry = served(&options.driver, "--driver")?;
+            let mut premium = served(&options.premium_driver, "--premium-driver")?;
+            Ok(drive_both(options, &mut entry, &mut premium))
         }
-        "answer" => answer().map(|()| true),
+        "rehearse" => Ok(rehearse(options)),
+        "answer" => answer(options.sizes).map(|()| true),
         mode => Err(format!("{mode} is no mode")),
     }
 }
 
-fn library(options: &Options) -> Result<bool, String> {
-    let command = options.driver.as_deref().ok_or("library needs --driver COMMAND")?;
-    Ok(drive_calls(options, &mut Served::start(command)?))
+fn served(driver: &Option<String>, option: &str) -> Result<Served, String> {
+    Served::start(driver.as_deref().ok_or(format!("the mode needs {option} COMMAND"))?)
+}
+
+fn rehearse(options: &Options) -> bool {
+    let sizes = options.sizes;
+    let scripts = drive_scripts(options, &mut |input| Outcome::plain(script::answer(sizes, input)));
+    let calls = drive_calls(options, &mut Model(sizes));
+    let both = drive_both(options, &mut Model(Sizes::ENTRY), &mut Model(Sizes::PREMIUM));
+    scripts && calls && both
 }
 
 /// Answers the script on standard input.
-fn answer() -> Result<(), String> {
+fn answer(sizes: Sizes) -> Result<(), String> {
     let mut input = Vec::new();
     let limit = script::INPUT_LIMIT as u64;
     std::io::stdin().take(limit).read_to_end(&mut input).map_err(|error| error.to_string())?;
-    let output = script::answer(Sizes::ENTRY, &input);
+    let output = script::answer(sizes, &input);
     std::io::stdout().write_all(&output).map_err(|error| error.to_string())
 }
 
 fn drive_scripts(options: &Options, program: &mut dyn FnMut(&[u8]) -> Outcome) -> bool {
-    println!("script sessions, seed {}", options.seed());
-    let mut tally = Tally::default();
-    let (passed, difference) = drive_script::drive(Sizes::ENTRY, program, options.seed(), &options.limit(), &mut tally);
-    let report = difference.map(|found| drive_script::report(Sizes::ENTRY, program, options.seed(), &found));
+    let (sizes, seed) = (options.sizes, options.seed);
+    println!("script sessions, {} model, seed {seed}", sizes.name());
+    let mut tally = Tally::new(sizes);
+    let (passed, difference) = drive_script::drive(sizes, program, seed, &options.limit(), &mut tally);
+    let report = difference.map(|found| drive_script::report(sizes, program, seed, &found));
     print!("{}{}", tally.table(&Kind::SCRIPT), tally.corners());
     conclude(passed, report, tally.missing_of_script())
 }
 
 fn drive_calls(options: &Options, subject: &mut dyn Subject) -> bool {
-    println!("library calls, seed {}", options.seed());
-    let mut driver = Driver::new(Sizes::ENTRY, subject);
-    let report = driver.drive(options.seed(), &options.limit());
+    println!("library calls, {} model, seed {}", options.sizes.name(), options.seed);
+    let mut driver = Driver::new(options.sizes, subject);
+    let report = driver.drive(options.seed, &options.limit());
     print!("{}{}", driver.tally.table(&Kind::LIBRARY), driver.tally.corners());
     let rounds = driver.sweep_hundredths() as f64 / 100.0;
     println!("every byte of an image had every telling value {rounds:.2} times");
     conclude(driver.passed, report, driver.tally.missing_of_library())
+}
+
+fn drive_both(options: &Options, entry: &mut dyn Subject, premium: &mut dyn Subject) -> bool {
+    println!("the same calls on both models, seed {}", options.seed);
+    let mut both = Both::new(entry, premium);
+    let report = both.drive(options.seed, &options.limit());
+    print!("{}{}{}", both.tally.table(&Kind::ONE_PAGE), both.tally.corners(), both.hits.table());
+    conclude(both.passed, report, both.missing())
 }
 
 /// Prints what failed and the last line. True if nothing failed.

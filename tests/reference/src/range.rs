@@ -39,7 +39,7 @@ impl Board {
     /// The pages of a range, or number 7.
     pub fn range_pages(&self, range: Range) -> Result<Pages, Refusal> {
         let all = self.sizes.pages as u32;
-        let largest = 10 + all.ilog2();
+        let largest = self.sizes.largest_part();
         match (range.base, range.size) {
             (0, 0) => Ok(Pages { first: 0, count: 0 }),
             (0, 1) => Ok(Pages { first: 0, count: all }),
@@ -140,8 +140,8 @@ mod tests {
     const NIL: Range = Range { base: 0, size: 0 };
     const COMPLETE: Range = Range { base: 0, size: 1 };
 
-    fn pages(base: u32, size: u32) -> Option<(u32, u32)> {
-        let found = board_k().range_pages(Range { base, size }).ok();
+    fn pages(sizes: Sizes, base: u32, size: u32) -> Option<(u32, u32)> {
+        let found = board_k(sizes).range_pages(Range { base, size }).ok();
         found.map(|pages| (pages.first, pages.count))
     }
 
@@ -151,65 +151,83 @@ mod tests {
 
     #[test]
     fn the_ranges_of_01() {
-        assert_eq!(pages(3, 10), Some((3, 1)));
-        assert_eq!(pages(3, 11), Some((2, 2)));
-        assert_eq!(pages(31, 15), Some((0, 32)));
-        assert_eq!(pages(0, 0), Some((0, 0)));
-        assert_eq!(pages(0, 1), Some((0, 32)));
-        for (base, size) in [(0, 9), (0, 16), (32, 10), (1, 0), (1, 1), (0, 2), (u32::MAX, 10), (0, u32::MAX)] {
-            assert_eq!(pages(base, size), None, "{base} {size}");
+        for (sizes, all, largest) in [(Sizes::ENTRY, 32, 15), (Sizes::PREMIUM, 64, 16)] {
+            assert_eq!(pages(sizes, 3, 10), Some((3, 1)));
+            assert_eq!(pages(sizes, 3, 11), Some((2, 2)));
+            assert_eq!(pages(sizes, all - 1, largest), Some((0, all)));
+            assert_eq!(pages(sizes, all - 1, largest - 1), Some((all / 2, all / 2)));
+            assert_eq!(pages(sizes, all - 1, 10), Some((all - 1, 1)));
+            assert_eq!(pages(sizes, 0, 0), Some((0, 0)));
+            assert_eq!(pages(sizes, 0, 1), Some((0, all)));
+            let past =
+                [(0, 9), (0, largest + 1), (all, 10), (all, largest), (1, 0), (1, 1), (0, 2), (u32::MAX, 10), (0, u32::MAX)];
+            for (base, size) in past {
+                assert_eq!(pages(sizes, base, size), None, "{base} {size}");
+            }
+        }
+    }
+
+    #[test]
+    fn the_largest_part_is_complete() {
+        for sizes in Sizes::MODELS {
+            let largest = Range { base: 0, size: sizes.largest_part() };
+            let [mut part, mut complete] = [board_k(sizes), board_k(sizes)];
+            let all = sizes.pages as u32;
+            assert_eq!(part.map_range(0, largest, 4, COMPLETE, 3), reply(0, all, all, 0));
+            assert_eq!(complete.map_range(0, COMPLETE, 4, largest, 3), reply(0, all, all, 0));
+            assert_eq!(part, complete);
         }
     }
 
     #[test]
     fn a_nil_range_is_done_with_no_page() {
-        let mut board = board_k();
-        assert_eq!(board.flush_range(0, NIL, 1), reply(0, 0, 32, 0));
-        assert_eq!(board.map_range(0, NIL, 0, NIL, 1), reply(0, 0, 32, 0));
-        assert_eq!(board.map_range(0, NIL, 0, COMPLETE, 1), reply(8, 0, 0, 0));
-        assert_eq!(board, board_k());
+        for (sizes, none) in [(Sizes::ENTRY, 32), (Sizes::PREMIUM, 64)] {
+            let mut board = board_k(sizes);
+            assert_eq!(board.flush_range(0, NIL, 1), reply(0, 0, none, 0));
+            assert_eq!(board.map_range(0, NIL, 0, NIL, 1), reply(0, 0, none, 0));
+            assert_eq!(board.map_range(0, NIL, 0, COMPLETE, 1), reply(8, 0, 0, 0));
+            assert_eq!(board, board_k(sizes));
+        }
     }
 
     #[test]
     fn the_first_checks_go_before_the_pages() {
-        let mut board = board_k();
-        let bad = Range { base: 0, size: 9 };
-        assert_eq!(board.unmap_range(8, bad, 0), reply(3, 0, 0, 0));
-        assert_eq!(board.unmap_range(7, bad, 0), reply(4, 0, 0, 0));
-        assert_eq!(board.unmap_range(1, bad, 0), reply(6, 0, 0, 0));
-        assert_eq!(board.unmap_range(1, bad, 1), reply(7, 0, 0, 0));
-        assert_eq!(board.flush_range(0, COMPLETE, 1), reply(9, 0, 0, 0));
-        board.live[0] = false;
-        assert_eq!(board.flush_range(0, NIL, 1), reply(1, 0, 0, 0));
+        for (sizes, spaces) in [(Sizes::ENTRY, 8), (Sizes::PREMIUM, 16)] {
+            let mut board = board_k(sizes);
+            let bad = Range { base: 0, size: 9 };
+            assert_eq!(board.unmap_range(spaces, bad, 0), reply(3, 0, 0, 0));
+            assert_eq!(board.unmap_range(spaces - 1, bad, 0), reply(4, 0, 0, 0));
+            assert_eq!(board.unmap_range(1, bad, 0), reply(6, 0, 0, 0));
+            assert_eq!(board.unmap_range(1, bad, 1), reply(7, 0, 0, 0));
+            assert_eq!(board.flush_range(0, COMPLETE, 1), reply(9, 0, 0, 0));
+            board.live[0] = false;
+            assert_eq!(board.flush_range(0, NIL, 1), reply(1, 0, 0, 0));
+        }
     }
 
     #[test]
     fn refused_pages_are_passed_over() {
-        let mut board = board_k();
-        let part = Range { base: 2, size: 12 };
-        assert_eq!(board.map_range(2, COMPLETE, 4, Range { base: 0, size: 15 }, 4), reply(11, 2, 0, 0));
-        assert!(board.held(spot(4, 3)) && board.held(spot(4, 4)));
-        assert_eq!(board.unmap_range(2, part, 7), reply(0, 4, 32, 2), "(3,1) and (4,3)");
-        assert_eq!(board.flush_range(2, COMPLETE, 7), reply(0, 32, 32, 3));
+        for (sizes, all, largest) in [(Sizes::ENTRY, 32, 15), (Sizes::PREMIUM, 64, 16)] {
+            let mut board = board_k(sizes);
+            let part = Range { base: 2, size: 12 };
+            assert_eq!(board.map_range(2, COMPLETE, 4, Range { base: 0, size: largest }, 4), reply(11, 2, 0, 0));
+            assert!(board.held(spot(4, 3)) && board.held(spot(4, 4)));
+            assert_eq!(board.unmap_range(2, part, 7), reply(0, 4, all, 2), "(3,1) and (4,3)");
+            assert_eq!(board.flush_range(2, COMPLETE, 7), reply(0, all, all, 3));
+        }
     }
 
     #[test]
     fn a_grant_over_a_range_moves_every_page_it_can() {
-        let mut board = Board::start(Sizes::ENTRY);
-        board.create(2).unwrap();
-        let low = Range { base: 0, size: 12 };
-        let high = Range { base: 31, size: 12 };
-        assert_eq!(board.map_range(0, low, 1, low, 7), reply(0, 4, 32, 0));
-        assert_eq!(board.grant_range(1, low, 2, high, 7), reply(0, 4, 32, 4));
-        assert_eq!(board.parent(spot(2, 30)), Some(spot(0, 2)));
-        assert_eq!(board.grant_range(1, low, 2, high, 7), reply(11, 0, 0, 0));
-    }
-
-    #[test]
-    fn the_premium_model_has_larger_ranges() {
-        let board = Board::start(Sizes::PREMIUM);
-        let found = board.range_pages(Range { base: 63, size: 16 });
-        assert_eq!(found, Ok(Pages { first: 0, count: 64 }));
-        assert!(board.range_pages(Range { base: 63, size: 17 }).is_err());
+        for (sizes, all) in [(Sizes::ENTRY, 32), (Sizes::PREMIUM, 64)] {
+            let mut board = Board::start(sizes);
+            board.create(2).unwrap();
+            let low = Range { base: 0, size: 12 };
+            let high = Range { base: all - 1, size: 12 };
+            assert_eq!(board.map_range(0, low, 1, low, 7), reply(0, 4, all, 0));
+            assert_eq!(board.grant_range(1, low, 2, high, 7), reply(0, 4, all, 4));
+            assert_eq!(board.parent(spot(2, all as usize - 2)), Some(spot(0, 2)));
+            assert_eq!(board.grant_range(1, low, 2, high, 7), reply(11, 0, 0, 0));
+        }
     }
 }

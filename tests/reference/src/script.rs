@@ -159,8 +159,11 @@ pub fn write_line(call: &Call) -> Option<String> {
 mod tests {
     use super::*;
 
-    fn entry(input: &[u8]) -> String {
-        String::from_utf8(answer(Sizes::ENTRY, input)).unwrap()
+    /// What the programs of both models write.
+    fn answers(input: &[u8]) -> String {
+        let [entry, premium] = Sizes::MODELS.map(|sizes| String::from_utf8(answer(sizes, input)).unwrap());
+        assert_eq!(entry, premium);
+        entry
     }
 
     const SESSION: &str = "\
@@ -189,17 +192,29 @@ held=2
 
     #[test]
     fn the_session_of_01() {
-        assert_eq!(entry(SESSION.as_bytes()), ANSWERS);
-        assert_eq!(entry(SESSION.trim_end().as_bytes()), ANSWERS);
+        assert_eq!(answers(SESSION.as_bytes()), ANSWERS);
+        assert_eq!(answers(SESSION.trim_end().as_bytes()), ANSWERS);
+    }
+
+    #[test]
+    fn the_models_part_at_their_limits() {
+        let input =
+            b"op=create space=8\nop=map from=0 page=32 to=1 at=63 rights=4\nop=translate space=1 address=65535 rights=4\n";
+        let answers = |sizes| String::from_utf8(answer(sizes, input)).unwrap();
+        let refused = "line=1 answer=3 emptied=0\nline=2 answer=5 emptied=0\nline=3 answer=5 address=0 hit=0\nheld=0\n";
+        assert_eq!(answers(Sizes::ENTRY), refused);
+        let done = "line=1 answer=0 emptied=0\nline=2 answer=0 emptied=0\nline=3 answer=0 address=33791 hit=0\n\
+            space=1 page=63 parent=0 at=32 rights=4\nheld=1\n";
+        assert_eq!(answers(Sizes::PREMIUM), done);
     }
 
     #[test]
     fn empty_input_and_empty_lines() {
-        assert_eq!(entry(b""), "held=0\n");
-        assert_eq!(entry(b"\n"), "line=1 answer=16\nheld=0\n");
-        assert_eq!(entry(b"\n\n"), "line=1 answer=16\nline=2 answer=16\nheld=0\n");
-        assert_eq!(entry(b"#"), "held=0\n");
-        assert_eq!(entry(b"x"), "line=1 answer=16\nheld=0\n");
+        assert_eq!(answers(b""), "held=0\n");
+        assert_eq!(answers(b"\n"), "line=1 answer=16\nheld=0\n");
+        assert_eq!(answers(b"\n\n"), "line=1 answer=16\nline=2 answer=16\nheld=0\n");
+        assert_eq!(answers(b"#"), "held=0\n");
+        assert_eq!(answers(b"x"), "line=1 answer=16\nheld=0\n");
     }
 
     #[test]
@@ -251,10 +266,10 @@ held=2
     fn only_the_first_bytes_are_read() {
         let fill = |length: usize| [vec![b'#'; length - 1], vec![b'\n']].concat();
         let cut = [fill(INPUT_LIMIT - 17), b"op=create space=23\n".to_vec()].concat();
-        assert_eq!(entry(&cut), "line=2 answer=0 emptied=0\nheld=0\n", "cut after space=2");
+        assert_eq!(answers(&cut), "line=2 answer=0 emptied=0\nheld=0\n", "cut after space=2");
         let past = [fill(INPUT_LIMIT), b"op=create space=2\n".to_vec()].concat();
-        assert_eq!(entry(&past), "held=0\n");
+        assert_eq!(answers(&past), "held=0\n");
         let one = [fill(INPUT_LIMIT - 1), b"op=create space=2\n".to_vec()].concat();
-        assert_eq!(entry(&one), "line=2 answer=16\nheld=0\n");
+        assert_eq!(answers(&one), "line=2 answer=16\nheld=0\n");
     }
 }

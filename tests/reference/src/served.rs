@@ -1,10 +1,11 @@
-//! The C functions of the entry model (lend.h), served by a driver process: the kit compiles for x86-64 alone, and this program
+//! The C functions of one model (lend.h), served by a driver process: the kit compiles for x86-64 alone, and this program
 //! runs on whatever machine it is built on. `tests/driver/driver.c` has the other end and says what goes over the pipe.
 
 use crate::calls::{Call, RangeLending, RangeWithdrawal, Reply};
+use crate::command::command;
 use crate::drive_library::Subject;
 use std::io::{BufReader, BufWriter, Read, Write};
-use std::process::{Child, ChildStdin, ChildStdout, Command, Stdio};
+use std::process::{Child, ChildStdin, ChildStdout};
 
 /// The driver process, with a pipe to it and one from it.
 pub struct Served {
@@ -15,15 +16,8 @@ pub struct Served {
 
 impl Served {
     /// Starts the driver: a command and its words, parted by spaces.
-    pub fn start(command: &str) -> Result<Served, String> {
-        let mut words = command.split(' ');
-        let program = words.next().unwrap_or_default();
-        let mut child = Command::new(program)
-            .args(words)
-            .stdin(Stdio::piped())
-            .stdout(Stdio::piped())
-            .spawn()
-            .map_err(|error| format!("{command}: {error}"))?;
+    pub fn start(line: &str) -> Result<Served, String> {
+        let mut child = command(line).spawn().map_err(|error| format!("{line}: {error}"))?;
         let requests = BufWriter::new(child.stdin.take().expect("piped"));
         let replies = BufReader::new(child.stdout.take().expect("piped"));
         Ok(Served { child, requests, replies })

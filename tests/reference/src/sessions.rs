@@ -1,8 +1,8 @@
 //! Random boards, random calls and random scripts, made to reach what is rare: deep lines, full boards, a cache that wraps
 //! around, spaces deleted and created again, and every refusal.
 
-use crate::board::{spot, Board, Link, Place, Slot, Spot};
-use crate::calls::{Call, Kind, Lending, Range, RangeLending, RangeWithdrawal, Withdrawal, ALL_RIGHTS};
+use crate::board::{spot, Board, Link, Place, Slot, Spot, Way};
+use crate::calls::{Call, Kind, Lending, Range, RangeLending, RangeWithdrawal, Refusal, Withdrawal, ALL_RIGHTS};
 use crate::lines::{comment, spoil, Flaw};
 use crate::random::Random;
 use crate::script::{parse, write_line, INPUT_LIMIT};
@@ -13,13 +13,34 @@ use crate::sizes::{Sizes, PAGE_BYTES};
 /// A sound board, also of the kinds that no list of calls from the start board leads to (two pages of a space with one frame).
 pub fn random_board(random: &mut Random, sizes: Sizes) -> Board {
     let mut board = Board::start(sizes);
-    let live_share = random.pick(&[50, 90, 100]);
+    let live_share = random.pick(&[50, 90, 100, 100]);
     for space in 2..sizes.spaces {
         board.live[space] = random.chance(live_share);
+    }
+    if random.chance(70) {
+        lay_lines(random, &mut board);
     }
     fill_pages(random, &mut board);
     fill_cache(random, &mut board);
     board
+}
+
+/// A few lines through all live spaces, so through every space of the model where all are live.
+fn lay_lines(random: &mut Random, board: &mut Board) {
+    let mut spaces = spaces_where(board, |space| space != 0 && board.live[space]);
+    for frame in 0..random.between(1, 4) {
+        random.shuffle(&mut spaces);
+        let mut parent = spot(0, frame);
+        for &space in &spaces {
+            let page = spot(space, random.below(board.sizes.pages));
+            if !board.held(page) {
+                let rights =
+                    if random.chance(90) { board.slot(parent).rights } else { some_of(random, board.slot(parent).rights) };
+                board.set_slot(page, Slot { link: Link::Page(parent), rights });
+                parent = page;
+            }
+        }
+    }
 }
 
 /// Links a random share of the pages, each to a held page whose line does not meet its space.
@@ -29,6 +50,7 @@ fn fill_pages(random: &mut Random, board: &mut Board) {
     let mut pages: Vec<Spot> = board.spots().filter(|page| page.space != 0 && board.live[page.space]).collect();
     random.shuffle(&mut pages);
     pages.truncate(pages.len() * share / 100);
+    pages.retain(|&page| !board.held(page));
     for page in pages {
         let givers: Vec<Spot> = (0..if chain { 12 } else { 1 }).map(|_| some_held(random, board)).collect();
         let free = givers.into_iter().filter(|&giver| board.line(giver).all(|at| at.space != page.space));
@@ -77,6 +99,12 @@ fn some_lent(random: &mut Random, board: &Board) -> Option<Spot> {
 fn deepest_of(random: &mut Random, board: &Board, count: usize) -> Spot {
     let pages: Vec<Spot> = (0..count).map(|_| some_held(random, board)).collect();
     pages.into_iter().max_by_key(|&page| board.line(page).count()).expect("one or more")
+}
+
+/// The page with the longest line of at most so many pages.
+fn deepest(board: &Board, longest: usize) -> Spot {
+    let length = |page: &Spot| board.line(*page).count();
+    board.lent_pages().filter(|page| length(page) <= longest).max_by_key(length).unwrap_or(spot(0, 0))
 }
 
 fn spaces_where(board: &Board, condition: impl Fn(usize) -> bool) -> Vec<usize> {
@@ -137,12 +165,13 @@ fn offer(random: &mut Random, board: &Board, giver: Spot) -> Lending {
     lending(giver, spot(space, page), rights)
 }
 
-/// Makes lines longer: maps from the deepest of a few pages, after making every space live.
+/// Makes lines longer: maps from the deepest of a few pages or of all, after making every space live.
 fn deepen(random: &mut Random, board: &Board) -> Call {
     if let (Some(space), true) = (some_dead(random, board), random.chance(20)) {
         return Call::Create { space: space as u32 };
     }
-    let giver = deepest_of(random, board, 6);
+    let live = spaces_where(board, |space| board.live[space]).len();
+    let giver = if random.chance(25) { deepest(board, live - 1) } else { deepest_of(random, board, 6) };
     Call::Map(offer(random, board, giver))
 }
 
@@ -189,12 +218,16 @@ fn again(random: &mut Random, board: &Board) -> Call {
 }
 
 /// Reads through the cache: pages that are in it, and others, so that it fills up and wraps around.
-fn read(random: &mut Random, board: &Board, kinds: &[Kind]) -> Call {
-    let page = match some_cached(random, board) {
-        Some(page) if random.chance(40) => page,
+pub fn read(random: &mut Random, board: &Board, kinds: &[Kind]) -> Call {
+    let page = match (some_cached(random, board), random.below(100)) {
+        (_, 0..=4) => spot(0, board.sizes.pages - 1),
+        (_, 5..=19) => deepest(board, random.between(2, board.sizes.spaces)),
+        (Some(page), 20..=59) => page,
         _ => deepest_of(random, board, 3),
     };
-    let (space, address) = (page.space as u32, (PAGE_BYTES * page.page + random.below(PAGE_BYTES)) as u32);
+    let any = random.below(PAGE_BYTES);
+    let offset = random.pick(&[0, PAGE_BYTES - 1, any, any, any, any]);
+    let (space, address) = (page.space as u32, (PAGE_BYTES * page.page + offset) as u32);
     let rights = some_of(random, board.slot(page).rights) as u32;
     match random.pick(&[Kind::Translate, Kind::Load, Kind::Store]) {
         Kind::Load if kinds.contains(&Kind::Load) => Call::Load { space, address },
@@ -263,6 +296,8 @@ struct Loose<'a> {
     random: &'a mut Random,
     board: &'a Board,
     slack: usize,
+    /// 14 or 15, if a lending is to be refused with it.
+    wanted: Option<Refusal>,
 }
 
 impl Loose<'_> {
@@ -293,7 +328,12 @@ impl Loose<'_> {
 
     fn address(&mut self, good_page: usize) -> u32 {
         if self.odd() && self.random.chance(50) {
-            odd_number(self.random, self.board.sizes.memory())
+            let past = self.board.sizes.memory();
+            if self.random.chance(30) {
+                past as u32
+            } else {
+                odd_number(self.random, past)
+            }
         } else {
             let page = if self.odd() { self.random.below(self.board.sizes.pages) } else { good_page };
             (PAGE_BYTES * page + self.random.below(PAGE_BYTES)) as u32
@@ -313,12 +353,8 @@ impl Loose<'_> {
         Withdrawal { space: self.space(named.space), page: self.page(named.page), rights: self.rights() }
     }
 
-    fn lending(&mut self) -> Lending {
-        let giver = some_held(self.random, self.board);
-        let taker = match self.random.below(3) {
-            0 => spot(some_live(self.random, self.board), self.random.below(self.board.sizes.pages)),
-            _ => some_held(self.random, self.board),
-        };
+    fn lending(&mut self, way: Way) -> Lending {
+        let (giver, taker) = self.parties(way);
         Lending {
             from: self.space(giver.space),
             page: self.page(giver.page),
@@ -332,17 +368,60 @@ impl Loose<'_> {
         }
     }
 
+    /// A giver and a taker: both held, or the taker any page, or such as are refused with 14 or 15.
+    fn parties(&mut self, way: Way) -> (Spot, Spot) {
+        let held = (some_held(self.random, self.board), some_held(self.random, self.board));
+        match (self.wanted, self.random.below(8)) {
+            (Some(Refusal::SourceBelow), _) | (None, 0) => self.crossed(way).unwrap_or(held),
+            (Some(Refusal::TakerBelow), _) => self.nested(way).unwrap_or(held),
+            (_, 1 | 2) => (held.0, spot(some_live(self.random, self.board), self.random.below(self.board.sizes.pages))),
+            _ => held,
+        }
+    }
+
+    /// A giver and a taker with a page of the source's space below it, the giver's line not meeting the taker's space: so 14, if
+    /// nothing else is in the way.
+    fn crossed(&mut self, way: Way) -> Option<(Spot, Spot)> {
+        let board = self.board;
+        let below = deepest_of(self.random, board, 4);
+        let above: Vec<Spot> = board.line(below).skip(1).filter(|page| page.space != 0).collect();
+        let taker = self.random.pick_any(&above)?;
+        let source = |giver: Spot| if way == Way::Map { Some(giver) } else { board.parent(giver) };
+        let crosses = |giver: &Spot| source(*giver).is_some_and(|source| source.space == below.space);
+        let apart = |giver: &Spot| board.line(*giver).all(|page| page.space != taker.space);
+        let givers: Vec<Spot> = board.lent_pages().filter(crosses).filter(apart).collect();
+        Some((self.random.pick_any(&givers)?, taker))
+    }
+
+    /// A giver and a taker of whose space another page is below the source, and again only that is in the way: 15.
+    fn nested(&mut self, way: Way) -> Option<(Spot, Spot)> {
+        let board = self.board;
+        let below = deepest_of(self.random, board, 2);
+        let above: Vec<Spot> = board.line(below).skip(1).collect();
+        let source = self.random.pick_any(&above)?;
+        let gives = |page: &Spot| if way == Way::Map { *page == source } else { board.parent(*page) == Some(source) };
+        let givers: Vec<Spot> = board.spots().filter(|page| gives(page) && page.space != below.space).collect();
+        let taker = spot(below.space, self.random.below(board.sizes.pages));
+        Some((self.random.pick_any(&givers)?, taker))
+    }
+
     /// A range, most often a valid one; wide ones are as likely as narrow ones.
     fn range(&mut self, good_page: usize) -> Range {
+        let largest = self.board.sizes.largest_part();
         if self.odd() {
             let base = self.page(good_page);
-            let size = self.random.pick(&[0, 1, 2, 8, 9, 16, 17, 31, 42, 255, 1034, u32::MAX]);
+            let past = largest + 1;
+            let size = self.random.pick(&[0, 1, 2, 8, 9, 10, largest, past, past, past + 1, 31, 42, 255, 1034, u32::MAX]);
             return Range { base, size };
         }
-        match self.random.below(12) {
-            0 => Range { base: 0, size: 0 },
-            1 | 2 => Range { base: 0, size: 1 },
-            _ => Range { base: good_page as u32, size: 10 + self.random.below(6) as u32 },
+        let part = self.random.between(10, largest as usize) as u32;
+        match self.random.below(24) {
+            0 | 1 => Range { base: 0, size: 0 },
+            2..=5 => Range { base: 0, size: 1 },
+            6 => Range { base: self.board.sizes.pages as u32, size: part },
+            7 | 8 => Range { base: self.board.sizes.pages as u32 - 1, size: part },
+            9 => Range { base: good_page as u32, size: largest + 1 },
+            _ => Range { base: good_page as u32, size: part },
         }
     }
 
@@ -351,9 +430,26 @@ impl Loose<'_> {
         RangeWithdrawal { space: self.space(named.space), range: self.range(named.page), rights: self.rights() }
     }
 
-    /// Two ranges, of the same size more often than not.
-    fn range_lending(&mut self) -> RangeLending {
-        let Lending { from, page, to, at, rights } = self.lending();
+    /// Every page of the pool to a space that has few pages, so that pages far up are the first to be refused.
+    fn whole_pool(&mut self) -> RangeLending {
+        let all = [Range { base: 0, size: 1 }, Range { base: 0, size: self.board.sizes.largest_part() }];
+        let live = spaces_where(self.board, |space| space != 0 && self.board.live[space]);
+        let held = |space: &usize| self.board.pages_of(*space).filter(|&page| self.board.held(page)).count();
+        let fewest = live.into_iter().filter(|space| held(space) > 0).min_by_key(held).unwrap_or(1);
+        let rights = some_of(self.random, ALL_RIGHTS) as u32;
+        RangeLending { from: 0, given: self.random.pick(&all), to: fewest as u32, taken: self.random.pick(&all), rights }
+    }
+
+    /// Two ranges, of the same size more often than not; in many cases just the pages of a lending.
+    fn range_lending(&mut self, way: Way) -> RangeLending {
+        let Lending { from, page, to, at, rights } = self.lending(way);
+        if way == Way::Map && self.random.chance(20) {
+            return self.whole_pool();
+        }
+        if self.wanted.is_some() || self.random.chance(40) {
+            let one = |base: u32| Range { base, size: 10 };
+            return RangeLending { from, given: one(page), to, taken: one(at), rights };
+        }
         let given = self.range(page as usize % self.board.sizes.pages);
         let mut taken = self.range(at as usize % self.board.sizes.pages);
         if self.random.chance(80) {
@@ -370,8 +466,8 @@ impl Loose<'_> {
             Kind::Delete => Call::Delete { space: self.space(some.space) },
             Kind::Unmap => Call::Unmap(self.withdrawal()),
             Kind::Flush => Call::Flush(self.withdrawal()),
-            Kind::Map => Call::Map(self.lending()),
-            Kind::Grant => Call::Grant(self.lending()),
+            Kind::Map => Call::Map(self.lending(Way::Map)),
+            Kind::Grant => Call::Grant(self.lending(Way::Grant)),
             Kind::Translate => {
                 Call::Translate { space: self.space(some.space), address: self.address(some.page), rights: self.rights() }
             }
@@ -381,8 +477,8 @@ impl Loose<'_> {
             }
             Kind::UnmapRange => Call::UnmapRange(self.range_withdrawal()),
             Kind::FlushRange => Call::FlushRange(self.range_withdrawal()),
-            Kind::MapRange => Call::MapRange(self.range_lending()),
-            Kind::GrantRange => Call::GrantRange(self.range_lending()),
+            Kind::MapRange => Call::MapRange(self.range_lending(Way::Map)),
+            Kind::GrantRange => Call::GrantRange(self.range_lending(Way::Grant)),
             Kind::Start => Call::Start,
             Kind::Sound => Call::Sound,
         }
@@ -391,7 +487,7 @@ impl Loose<'_> {
 
 /// A call whose parameters are odd in `slack` cases of a hundred each.
 pub fn loose(random: &mut Random, board: &Board, kind: Kind, slack: usize) -> Call {
-    Loose { random, board, slack }.call(kind)
+    Loose { random, board, slack, wanted: None }.call(kind)
 }
 
 /// A call that is to answer a number drawn from those that its kind can give: loose calls until one does so, or the last one.
@@ -399,14 +495,16 @@ fn aim(random: &mut Random, board: &Board, kinds: &[Kind]) -> Call {
     let kind = random.pick(kinds);
     let wanted = random.pick(kind.numbers());
     let slack = random.pick(&[5, 15, 40]);
-    let mut call = loose(random, board, kind, slack);
+    let rare = [Refusal::SourceBelow, Refusal::TakerBelow].into_iter().find(|refusal| refusal.number() == wanted);
+    let mut loose = Loose { random, board, slack, wanted: rare };
+    let mut call = loose.call(kind);
     for _ in 0..20 {
         // Of memory, load and store only ask the length before they ask the rest.
         let reply = board.clone().play(&mut vec![0; board.sizes.memory()], &call);
         if reply.number == wanted {
             break;
         }
-        call = loose(random, board, kind, slack);
+        call = loose.call(kind);
     }
     call
 }
@@ -460,7 +558,7 @@ impl Composer {
     /// The next call, for this board.
     pub fn compose(&mut self, random: &mut Random, board: &Board) -> Call {
         if self.left == 0 {
-            self.change_mood(random);
+            self.change_mood(random, board.sizes.places);
         }
         self.left -= 1;
         let mood = if self.mood == Mood::Mixed { random.pick(&MIXED) } else { self.mood };
@@ -473,7 +571,8 @@ impl Composer {
             Mood::Churn => churn(random, board),
             Mood::Aim => aim(random, board, self.kinds),
             Mood::Wild => {
-                let lending = random.pick(&[Kind::Map, Kind::Grant]);
+                let lending = random.pick(&[Kind::Map, Kind::Grant, Kind::MapRange, Kind::GrantRange]);
+                let lending = if self.kinds.contains(&lending) { lending } else { Kind::Grant };
                 let kind = if random.chance(40) { lending } else { random.pick(self.kinds) };
                 let slack = random.pick(&[10, 30, 60]);
                 loose(random, board, kind, slack)
@@ -482,13 +581,13 @@ impl Composer {
         }
     }
 
-    /// Building moods last long, those that take away are short.
-    fn change_mood(&mut self, random: &mut Random) {
+    /// Building moods last long, those that take away are short. Reading goes on until a cache of so many places is replaced.
+    fn change_mood(&mut self, random: &mut Random, places: usize) {
         (self.mood, self.left) = match random.below(18) {
             0..=2 => (Mood::Deepen, random.between(10, 80)),
             3 | 4 => (Mood::Fill, random.between(5, 80)),
             5 => (Mood::Grant, random.between(1, 15)),
-            6 | 7 => (Mood::Read, random.between(2, 40)),
+            6 | 7 => (Mood::Read, random.between(2, 5 * places)),
             8 => (Mood::Withdraw, random.between(1, 10)),
             9 | 10 => (Mood::Churn, random.between(1, 6)),
             11 | 12 => (Mood::Aim, random.between(5, 30)),
@@ -637,7 +736,7 @@ pub fn random_session(random: &mut Random, sizes: Sizes) -> Session {
 
 /// Scripts that are run before the random ones: the ends of input, the limit, and the longest answers (last, as they
 /// are slow to shorten).
-pub fn edge_sessions() -> Vec<Vec<u8>> {
+pub fn edge_sessions(sizes: Sizes) -> Vec<Vec<u8>> {
     let mut sessions: Vec<Vec<u8>> = [
         "",
         "\n",
@@ -653,11 +752,12 @@ pub fn edge_sessions() -> Vec<Vec<u8>> {
         "op=create space=2\n\n",
         "op=create space=2\r\nop=create space=2\n",
         "#\nop=create space=2\n#",
-        "op=create space=0\nop=create space=7\nop=create space=8\nop=create space=99999\nop=create space=100000\n",
     ]
     .iter()
     .map(|text| text.as_bytes().to_vec())
     .collect();
+    sessions.push(limits(sizes).into_bytes());
+    sessions.push(longest_line(sizes).into_bytes());
     sessions.extend(lines_around(80));
     sessions.extend(cut_lines());
     sessions.push(vec![b'\n'; INPUT_LIMIT - 1]);
@@ -668,6 +768,37 @@ pub fn edge_sessions() -> Vec<Vec<u8>> {
     sessions.push(vec![b'x'; INPUT_LIMIT + 1]);
     sessions.push(b"op=create space=2\n".repeat(INPUT_LIMIT / 18 + 9));
     sessions
+}
+
+/// The last space, page and address, each first past it, and the largest numbers of the script.
+fn limits(sizes: Sizes) -> String {
+    let (space, page, address) = (sizes.spaces - 1, sizes.pages - 1, sizes.memory() - 1);
+    let numbers = |last: usize| [0, last, last + 1, 99_999, 100_000];
+    let mut text: String = numbers(space).map(|space| format!("op=create space={space}\n")).concat();
+    for page in numbers(page) {
+        text += &format!("op=map from=0 page={page} to={space} at={page} rights=7\n");
+        text += &format!("op=unmap space={space} page={page} rights=2\n");
+    }
+    for address in numbers(address) {
+        text += &format!("op=translate space={space} address={address} rights=4\n");
+    }
+    text
+}
+
+/// A line through every space, each of its pages translated; then so many pages of the pool that every place of the cache is
+/// filled and replaced, and the line taken back from its top.
+fn longest_line(sizes: Sizes) -> String {
+    let mut text: String = (2..sizes.spaces).map(|space| format!("op=create space={space}\n")).collect();
+    for space in 1..sizes.spaces {
+        text += &format!("op=map from={} page={} to={space} at={space} rights=7\n", space - 1, space - 1);
+    }
+    for page in 0..sizes.spaces {
+        text += &format!("op=translate space={page} address={} rights=4\n", PAGE_BYTES * page + page);
+    }
+    for page in 1..=2 * sizes.places {
+        text += &format!("op=translate space=0 address={} rights=4\n", PAGE_BYTES * page);
+    }
+    text + "op=unmap space=0 page=0 rights=6\nop=unmap space=0 page=0 rights=1\n"
 }
 
 /// Lines with about so many bytes: comments, and spaces after a well-formed line.
@@ -692,50 +823,63 @@ mod tests {
 
     #[test]
     fn random_boards_are_sound_and_of_every_depth() {
-        let mut random = Random::new(1);
-        let (mut deepest, mut fullest, mut unreachable) = (0, 0, 0);
-        for _ in 0..300 {
-            let board = random_board(&mut random, Sizes::ENTRY);
-            assert!(board.sound());
-            deepest = deepest.max(board.spots().map(|page| board.line(page).count()).max().unwrap());
-            fullest = fullest.max(board.lent_pages().count());
-            let frames = |space| board.pages_of(space).filter_map(|page| board.frame(page)).collect::<Vec<_>>();
-            let twice = |list: Vec<usize>| (1..list.len()).any(|i| list[..i].contains(&list[i]));
-            unreachable += (1..8).any(|space| twice(frames(space))) as usize;
+        for (sizes, full) in [(Sizes::ENTRY, 200), (Sizes::PREMIUM, 900)] {
+            let mut random = Random::new(1);
+            let (mut depths, mut fullest, mut unreachable) = (vec![0; sizes.spaces + 1], 0, 0);
+            for _ in 0..300 {
+                let board = random_board(&mut random, sizes);
+                assert!(board.sound());
+                depths[deepest_line(&board)] += 1;
+                fullest = fullest.max(board.lent_pages().count());
+                let frames = |space| board.pages_of(space).filter_map(|page| board.frame(page)).collect::<Vec<_>>();
+                let twice = |list: Vec<usize>| (1..list.len()).any(|i| list[..i].contains(&list[i]));
+                unreachable += (1..sizes.spaces).any(|space| twice(frames(space))) as usize;
+            }
+            assert!(depths[sizes.spaces] > 20, "{depths:?}");
+            assert!(depths[8] > 10, "{depths:?}");
+            assert!(fullest > full, "{fullest}");
+            assert!(unreachable > 100, "{unreachable}");
         }
-        assert_eq!(deepest, 8);
-        assert!(fullest > 200, "{fullest}");
-        assert!(unreachable > 100, "{unreachable}");
+    }
+
+    /// How many pages the longest line of a board has.
+    fn deepest_line(board: &Board) -> usize {
+        board.spots().map(|page| board.line(page).count()).max().unwrap()
     }
 
     #[test]
     fn composed_calls_reach_deep_lines_full_boards_and_replaced_places() {
-        let mut random = Random::new(2);
-        let mut board = Board::start(Sizes::ENTRY);
-        let mut composer = Composer::new(&Kind::BOARD);
-        let mut memory = vec![0; 32768];
-        let (mut deepest, mut fullest, mut wraps) = (0, 0, 0);
-        for _ in 0..20_000 {
-            let call = composer.compose(&mut random, &board);
-            let next = board.cache.next;
-            board.play(&mut memory, &call);
-            assert!(board.sound(), "{call:?}");
-            wraps += (next == 7 && board.cache.next == 0) as usize;
-            deepest = deepest.max(board.spots().map(|page| board.line(page).count()).max().unwrap());
-            fullest = fullest.max(board.lent_pages().count());
+        for (sizes, calls, full) in [(Sizes::ENTRY, 20_000, 150), (Sizes::PREMIUM, 10_000, 300)] {
+            let mut random = Random::new(2);
+            let mut board = Board::start(sizes);
+            let mut composer = Composer::new(&Kind::BOARD);
+            let mut memory = vec![0; sizes.memory()];
+            let (mut deepest, mut fullest, mut wraps) = (0, 0, 0);
+            for _ in 0..calls {
+                let call = composer.compose(&mut random, &board);
+                let next = board.cache.next;
+                board.play(&mut memory, &call);
+                assert!(board.sound(), "{call:?}");
+                wraps += (next == sizes.places - 1 && board.cache.next == 0) as usize;
+                deepest = deepest.max(deepest_line(&board));
+                fullest = fullest.max(board.lent_pages().count());
+            }
+            assert_eq!(deepest, sizes.spaces);
+            assert!(fullest > full, "{fullest}");
+            assert!(wraps > 5, "{wraps}");
         }
-        assert_eq!(deepest, 8);
-        assert!(fullest > 150, "{fullest}");
-        assert!(wraps > 10, "{wraps}");
     }
 
     #[test]
     fn a_filled_board_is_full() {
-        for seed in 0..20 {
-            let mut session = Session::new(Sizes::ENTRY);
-            session.fill_board(&mut Random::new(seed));
-            assert_eq!(session.board.lent_pages().count(), 7 * 32);
-            assert!(session.board.sound());
+        for (sizes, seeds) in [(Sizes::ENTRY, 20), (Sizes::PREMIUM, 3)] {
+            for seed in 0..seeds {
+                let mut session = Session::new(sizes);
+                session.fill_board(&mut Random::new(seed));
+                assert_eq!(session.board.lent_pages().count(), (sizes.spaces - 1) * sizes.pages);
+                assert!(session.board.sound());
+                assert!(session.bytes.len() < INPUT_LIMIT);
+            }
         }
     }
 

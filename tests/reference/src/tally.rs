@@ -1,7 +1,9 @@
 //! What a run has reached: the count of every answer, and how far it went into the corners.
 
-use crate::board::Board;
+use crate::board::{spot, Board};
 use crate::calls::{Call, Kind, Reply, MALFORMED, NUMBERS};
+use crate::corners::Corner;
+use crate::sizes::{Sizes, PAGE_BYTES};
 use std::collections::BTreeMap;
 use std::fmt::Write;
 use std::time::Instant;
@@ -19,21 +21,46 @@ impl Limit {
     }
 }
 
-#[derive(Clone, Debug, Default)]
+#[derive(Clone, Debug)]
 pub struct Tally {
+    sizes: Sizes,
     answers: [[u64; NUMBERS]; Kind::COUNT],
     malformed: u64,
     deepest_line: usize,
     most_held: usize,
     hits: u64,
-    replacements: u64,
+    corners: BTreeMap<Corner, u64>,
+    /// Accepted translations, by the number of pages of the line (1 at index 0).
+    lines: Vec<u64>,
+    /// Replaced entries, by place.
+    replaced: Vec<u64>,
     named: BTreeMap<String, u64>,
 }
 
 impl Tally {
+    pub fn new(sizes: Sizes) -> Tally {
+        Tally {
+            sizes,
+            answers: Default::default(),
+            malformed: 0,
+            deepest_line: 0,
+            most_held: 0,
+            hits: 0,
+            corners: BTreeMap::new(),
+            lines: vec![0; sizes.spaces],
+            replaced: vec![0; sizes.places],
+            named: BTreeMap::new(),
+        }
+    }
+
+    // ---- counting ------------------------------------------------------------------------------------------------------------
+
     /// Counts the answer to a call.
     pub fn count(&mut self, call: &Call, reply: &Reply) {
         self.answers[call.kind() as usize][reply.number as usize] += 1;
+        for corner in Corner::reached(self.sizes, call, reply) {
+            *self.corners.entry(corner).or_default() += 1;
+        }
     }
 
     pub fn count_malformed(&mut self) {
@@ -60,25 +87,37 @@ impl Tally {
             Call::Translate { .. } => self.hits += reply.out[1] as u64,
             _ => (),
         }
-        if call.kind() != Kind::Start && next != board.cache.next {
-            self.replacements += 1;
+        if let Some(address) = call.address() {
+            let page = spot(call.spaces()[0] as usize, address as usize / PAGE_BYTES);
+            self.lines[board.line(page).count() - 1] += 1;
+            self.replaced[next] += (next != board.cache.next) as u64;
         }
     }
 
-    /// The answers that should have occurred and did not.
+    // ---- what should have occurred and did not -------------------------------------------------------------------------------
+
     pub fn missing_of_script(&self) -> Vec<String> {
         let mut missing = self.missing(&Kind::SCRIPT, |number| number != 1);
         if self.malformed == 0 {
             missing.push(format!("a malformed line: {MALFORMED}"));
         }
+        missing.extend(self.missing_corners(&Corner::OF_ONE_PAGE));
+        missing.extend(self.missing_translations());
         missing
     }
 
-    /// The answers that should have occurred and did not.
     pub fn missing_of_library(&self) -> Vec<String> {
         let mut missing = self.missing(&Kind::LIBRARY, |_| true);
         missing.extend(self.missing(&[Kind::Sound], |_| true));
+        missing.extend(self.missing_corners(&Corner::OF_ONE_PAGE));
+        missing.extend(self.missing_corners(&Corner::OF_RANGES));
+        missing.extend(self.missing_translations());
         missing
+    }
+
+    /// Of calls for one page on sound boards with memory of the right length.
+    pub fn missing_of_one_page(&self) -> Vec<String> {
+        self.missing(&Kind::ONE_PAGE, |number| number > 2 || number == 0)
     }
 
     fn missing(&self, kinds: &[Kind], possible: impl Fn(u32) -> bool) -> Vec<String> {
@@ -92,6 +131,20 @@ impl Tally {
         }
         missing
     }
+
+    fn missing_corners(&self, corners: &[Corner]) -> Vec<String> {
+        corners.iter().filter(|corner| !self.corners.contains_key(corner)).map(|corner| format!("{corner:?}")).collect()
+    }
+
+    /// Each length of a translated line, and each place with a replaced entry.
+    fn missing_translations(&self) -> Vec<String> {
+        let never = |counts: &[u64]| (0..counts.len()).filter(|&at| counts[at] == 0).collect::<Vec<_>>();
+        let lines = never(&self.lines).into_iter().map(|at| format!("a translated line of {}", at + 1));
+        let places = never(&self.replaced).into_iter().map(|at| format!("place {at} replaced"));
+        lines.chain(places).collect()
+    }
+
+    // ---- what is printed -----------------------------------------------------------------------------------------------------
 
     /// The count of every answer: by number, and by call in it.
     pub fn table(&self, kinds: &[Kind]) -> String {
@@ -118,14 +171,19 @@ impl Tally {
     /// The corners that were reached.
     pub fn corners(&self) -> String {
         let [no, yes] = [0, 1].map(|number| self.answers[Kind::Sound as usize][number]);
-        let mut text = format!(
-            "deepest line {}, most lent pages {}, translate hits {}, cache replacements {}\n",
-            self.deepest_line, self.most_held, self.hits, self.replacements
-        );
+        let mut text =
+            format!("deepest line {}, most lent pages {}, translate hits {}\n", self.deepest_line, self.most_held, self.hits);
+        text += &format!("translated lines of 1 to {} pages: {}\n", self.sizes.spaces, spaced(&self.lines));
+        text += &format!("replaced entries of each place: {}\n", spaced(&self.replaced));
         if no + yes > 0 {
             text += &format!("sound answered yes {yes} times, no {no} times\n");
         }
-        let named: Vec<String> = self.named.iter().map(|(name, count)| format!("{name} {count}")).collect();
-        text + &named.join(", ") + "\n"
+        let corners = self.corners.iter().map(|(corner, count)| format!("{corner:?} {count}"));
+        let named = self.named.iter().map(|(name, count)| format!("{name} {count}"));
+        text + &corners.collect::<Vec<_>>().join(", ") + "\n" + &named.collect::<Vec<_>>().join(", ") + "\n"
     }
+}
+
+fn spaced(counts: &[u64]) -> String {
+    counts.iter().map(u64::to_string).collect::<Vec<_>>().join(" ")
 }

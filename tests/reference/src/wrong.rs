@@ -100,23 +100,24 @@ impl Fault {
 }
 
 /// A model with a fault.
-pub struct Wrong(pub Fault);
+pub struct Wrong(pub Sizes, pub Fault);
 
 impl Subject for Wrong {
     fn call(&mut self, bytes: &mut [u8], memory: &mut [u8], call: &Call) -> Reply {
-        if self.0 == Fault::UnusedBytesPass && *call == Call::Sound {
+        let Wrong(sizes, fault) = *self;
+        if fault == Fault::UnusedBytesPass && *call == Call::Sound {
             let mut tidied = bytes.to_vec();
-            tidy(&mut tidied);
-            return image::play(Sizes::ENTRY, &mut tidied, memory, call);
+            tidy(sizes, &mut tidied);
+            return image::play(sizes, &mut tidied, memory, call);
         }
-        image::play_with(Sizes::ENTRY, bytes, memory, call, |board, memory, call| play(self.0, board, memory, call))
+        image::play_with(sizes, bytes, memory, call, |board, memory, call| play(fault, board, memory, call))
     }
 }
 
 /// Sets the bytes without a meaning to 0.
-fn tidy(bytes: &mut [u8]) {
-    if bytes.len() == Sizes::ENTRY.image() {
-        for slot in bytes[..1024].chunks_mut(4) {
+fn tidy(sizes: Sizes, bytes: &mut [u8]) {
+    if bytes.len() == sizes.image() {
+        for slot in bytes[..4 * sizes.spaces * sizes.pages].chunks_mut(4) {
             match slot[0] {
                 0 => slot[1..3].fill(0),
                 1 => slot[2] = 0,

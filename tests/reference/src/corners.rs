@@ -1,0 +1,150 @@
+//! The corners of a model, which every run has to reach: the ends of each limit, on both sides, and the largest ranges.
+
+use crate::calls::{Call, Refusal, Reply};
+use crate::sizes::{Sizes, PAGE_BYTES};
+
+/// Something at a limit of the model. `Upper` is the upper half: of the premium model, what the entry model has not.
+#[derive(Clone, Copy, Debug, PartialEq, Eq, PartialOrd, Ord)]
+pub enum Corner {
+    UpperSpace,
+    LastSpace,
+    PastLastSpace,
+    UpperPage,
+    LastPage,
+    PastLastPage,
+    UpperAddress,
+    LastAddress,
+    PastLastAddress,
+    LargestPart,
+    PastLargestPart,
+    LastBase,
+    PastLastBase,
+    NoPageRefused,
+    /// The first refused page is in the upper half of a space's pages.
+    LateRefusal,
+}
+
+impl Corner {
+    /// The corners of calls for one page, which scripts have too.
+    pub const OF_ONE_PAGE: [Corner; 9] = [
+        Corner::UpperSpace,
+        Corner::LastSpace,
+        Corner::PastLastSpace,
+        Corner::UpperPage,
+        Corner::LastPage,
+        Corner::PastLastPage,
+        Corner::UpperAddress,
+        Corner::LastAddress,
+        Corner::PastLastAddress,
+    ];
+
+    /// The corners of calls over ranges.
+    pub const OF_RANGES: [Corner; 6] = [
+        Corner::LargestPart,
+        Corner::PastLargestPart,
+        Corner::LastBase,
+        Corner::PastLastBase,
+        Corner::NoPageRefused,
+        Corner::LateRefusal,
+    ];
+
+    /// The corners that a call and its answer have reached.
+    pub fn reached(sizes: Sizes, call: &Call, reply: &Reply) -> Vec<Corner> {
+        let all = Corner::OF_ONE_PAGE.iter().chain(&Corner::OF_RANGES).copied();
+        all.filter(|corner| corner.is_reached(sizes, call, reply)).collect()
+    }
+
+    fn is_reached(self, sizes: Sizes, call: &Call, reply: &Reply) -> bool {
+        match self {
+            Corner::UpperSpace | Corner::LastSpace | Corner::PastLastSpace => self.of_space(sizes, call, reply),
+            Corner::UpperPage | Corner::LastPage | Corner::PastLastPage => self.of_page(sizes, call, reply),
+            Corner::UpperAddress | Corner::LastAddress | Corner::PastLastAddress => self.of_address(sizes, call, reply),
+            _ => self.of_range(sizes, call, reply),
+        }
+    }
+
+    fn of_space(self, sizes: Sizes, call: &Call, reply: &Reply) -> bool {
+        call.spaces().into_iter().any(|space| self.at_limit(space, sizes.spaces, reply, Refusal::Space))
+    }
+
+    fn of_page(self, sizes: Sizes, call: &Call, reply: &Reply) -> bool {
+        let addressed = call.address().map(|address| address / PAGE_BYTES as u32);
+        let mut pages = call.pages().into_iter().chain(addressed.filter(|_| reply.number == 0));
+        pages.any(|page| self.at_limit(page, sizes.pages, reply, Refusal::Page))
+    }
+
+    fn of_address(self, sizes: Sizes, call: &Call, reply: &Reply) -> bool {
+        call.address().is_some_and(|address| self.at_limit(address, sizes.memory(), reply, Refusal::Page))
+    }
+
+    /// A number in the upper half or the last one, and the call was accepted; or the first past the limit, and it was refused.
+    fn at_limit(self, number: u32, limit: usize, reply: &Reply, refusal: Refusal) -> bool {
+        let (number, done) = (number as usize, reply.number == 0);
+        match self {
+            Corner::UpperSpace | Corner::UpperPage | Corner::UpperAddress => done && (limit / 2..limit).contains(&number),
+            Corner::LastSpace | Corner::LastPage | Corner::LastAddress => done && number == limit - 1,
+            _ => reply.number == refusal.number() && number == limit,
+        }
+    }
+
+    fn of_range(self, sizes: Sizes, call: &Call, reply: &Reply) -> bool {
+        let (pages, largest) = (sizes.pages as u32, sizes.largest_part());
+        let part = 10..=largest;
+        let (done, invalid) = (reply.number == 0, reply.number == Refusal::Range.number());
+        call.ranges().into_iter().any(|range| match self {
+            Corner::LargestPart => range.size == largest && reply.out[0] == pages,
+            Corner::PastLargestPart => invalid && range.size == largest + 1 && range.base < pages,
+            Corner::LastBase => done && part.contains(&range.size) && range.base == pages - 1,
+            Corner::PastLastBase => invalid && part.contains(&range.size) && range.base == pages,
+            Corner::LateRefusal => !done && (pages / 2..pages).contains(&reply.out[1]),
+            _ => done && reply.out[1] == pages,
+        })
+    }
+}
+
+#[cfg(test)]
+mod tests {
+    use super::*;
+    use crate::calls::{Range, RangeWithdrawal, Withdrawal};
+
+    fn reached(sizes: Sizes, call: Call, reply: Reply) -> Vec<Corner> {
+        Corner::reached(sizes, &call, &reply)
+    }
+
+    #[test]
+    fn the_ends_of_spaces_and_pages() {
+        let unmap = |space, page| Call::Unmap(Withdrawal { space, page, rights: 1 });
+        let done = Reply::done(0, 0);
+        let upper_and_last = [Corner::UpperSpace, Corner::LastSpace, Corner::UpperPage, Corner::LastPage];
+        assert_eq!(reached(Sizes::PREMIUM, unmap(15, 63), done), upper_and_last);
+        assert_eq!(reached(Sizes::PREMIUM, unmap(8, 32), done), [Corner::UpperSpace, Corner::UpperPage]);
+        assert_eq!(reached(Sizes::PREMIUM, unmap(7, 31), done), []);
+        assert_eq!(reached(Sizes::ENTRY, unmap(7, 31), done), upper_and_last);
+        assert_eq!(reached(Sizes::PREMIUM, unmap(16, 64), Reply::bare(3)), [Corner::PastLastSpace]);
+        assert_eq!(reached(Sizes::PREMIUM, unmap(1, 64), Reply::bare(5)), [Corner::PastLastPage]);
+    }
+
+    #[test]
+    fn the_ends_of_addresses() {
+        let load = |address| Call::Load { space: 0, address };
+        let upper = [Corner::UpperPage, Corner::LastPage, Corner::UpperAddress, Corner::LastAddress];
+        assert_eq!(reached(Sizes::PREMIUM, load(65_535), Reply::done(0, 0)), upper);
+        assert_eq!(reached(Sizes::PREMIUM, load(65_534), Reply::done(0, 0)), upper[..3]);
+        assert_eq!(reached(Sizes::PREMIUM, load(32_768), Reply::done(0, 0)), [Corner::UpperPage, Corner::UpperAddress]);
+        assert_eq!(reached(Sizes::PREMIUM, load(65_536), Reply::bare(5)), [Corner::PastLastAddress]);
+        assert_eq!(reached(Sizes::ENTRY, load(32_768), Reply::bare(5)), [Corner::PastLastAddress]);
+    }
+
+    #[test]
+    fn the_ends_of_ranges() {
+        let unmap = |base, size| Call::UnmapRange(RangeWithdrawal { space: 1, range: Range { base, size }, rights: 1 });
+        let all = [Corner::LargestPart, Corner::LastBase, Corner::NoPageRefused];
+        assert_eq!(reached(Sizes::PREMIUM, unmap(63, 16), Reply::range(0, 64, 64, 0)), all);
+        assert_eq!(reached(Sizes::ENTRY, unmap(31, 15), Reply::range(0, 32, 32, 0)), all);
+        assert_eq!(reached(Sizes::PREMIUM, unmap(0, 17), Reply::bare(7)), [Corner::PastLargestPart]);
+        assert_eq!(reached(Sizes::PREMIUM, unmap(64, 16), Reply::bare(7)), [Corner::PastLastBase]);
+        assert_eq!(reached(Sizes::PREMIUM, unmap(3, 10), Reply::range(0, 1, 64, 0)), [Corner::NoPageRefused]);
+        assert_eq!(reached(Sizes::PREMIUM, unmap(0, 1), Reply::range(11, 63, 32, 0)), [Corner::LateRefusal]);
+        assert_eq!(reached(Sizes::PREMIUM, unmap(0, 1), Reply::range(11, 63, 31, 0)), []);
+    }
+}
