@@ -179,14 +179,14 @@ module _ (z : Sizes) (b : Tables) (s p u v r : ℕ) (shut : Bool) (fine : NamedF
           ∙ ap (λ (t : Bool). cond (sourceBelowTaker z (tableOf b) source (key z u v)) 14 (cond t 15 0)) (taker-same none))
 
 -- what the code finds, test by test, and picks from, number by number
-pub lines-made : (z : Sizes) (b : List Slot) (under : List Bool) (g source t r at : ℕ) (held-there enough ring source-below taker-below : Bool) (alone line : List Bool)
+pub lines-made : (z : Sizes) (b : List Slot) (under : List Bool) (g source t r at : ℕ) (held-there enough ring source-below taker-below : Bool)
     (n15 n14 n13 n12 n11 : ℕ) → at ≡ insideOf z g → held-there ≡ held (slotAt b at) → enough ≡ within r (slotAt b at .rights) → ring ≡ meetsIn z b g (spaceOf z t)
-    → source-below ≡ otherIn z under (spaceOf z source) t → alone ≡ onlyPage z source → line ≡ lineHas z b alone → taker-below ≡ otherIn z line (spaceOf z t) t
+    → source-below ≡ otherIn z under (spaceOf z source) t → taker-below ≡ otherIn z (lineHas z b (onlyPage z source)) (spaceOf z t) t
     → n15 ≡ cond taker-below 15 0 → n14 ≡ cond source-below 14 n15 → n13 ≡ cond ring 13 n14 → n12 ≡ cond (not enough) 12 n13 → n11 ≡ cond (not held-there) 11 n12
     → n11 ≡ linesNumber z b under g source t r
 unfolding linesNumber
-lines-made z b under g source t r at held-there enough ring source-below taker-below alone line n15 n14 n13 n12 n11 is-at is-held is-enough is-ring is-source is-alone is-line is-taker e15 e14 e13 e12 e11 =
-    rw (e11, e12, e13, e14, e15, is-taker, is-line, is-alone, is-source, is-ring, is-enough, is-held, is-at)
+lines-made z b under g source t r at held-there enough ring source-below taker-below n15 n14 n13 n12 n11 is-at is-held is-enough is-ring is-source is-taker e15 e14 e13 e12 e11 =
+    rw (e11, e12, e13, e14, e15, is-taker, is-source, is-ring, is-enough, is-held, is-at)
 
 -- ── the source ───────────────────────────────────────────────────────────
 -- of a map the giver is the source, and of a grant its parent: a page of the table on the giver's line

@@ -9,6 +9,7 @@ pub mod Withdrawals
 pub mod Sets
 pub mod Calls
 pub mod Climbs
+pub mod OneSpace
 pub mod Taken
 pub mod LendingNumbers
 pub mod LendingCalls

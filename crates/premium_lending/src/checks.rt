@@ -6,12 +6,11 @@ use lend::pick;
 use model::Board;
 use model::lines::inside;
 use model::lines::key;
-use model::lines::line_has;
 use model::lines::meets;
+use model::lines::parent;
 use model::range::Range;
 use model::range::is_valid;
 use model::range::page_count;
-use model::sets::only;
 use model::sizes::PAGES;
 use model::sizes::SLOTS;
 use model::sizes::SPACES;
@@ -20,6 +19,7 @@ use model::sound::sound;
 use premium as model;
 ghost use mathlib.Core.Path.{_≡_};
 ghost use Rattle.lend.specs.Lending.{grantSource};
+ghost use Rattle.lend_code.specs.Inner.{lineHas, onlyPage};
 ghost use Rattle.lend_code.specs.Lending.{otherIn, namedChecks, linesNumber};
 ghost use Rattle.lend_code.specs.Ranges.{pairNumber};
 ghost use Rattle.premium.specs.Sizes.{sizes};
@@ -83,12 +83,49 @@ pub fn source_of(link: Link, giver: usize) -> usize
 fn other_in(set: [bool; SLOTS], space: usize, but: usize) -> bool
     ensures { λ r. ⌜ r ≡ otherIn sizes set space but ⌝ }
 {
-    let mut k: usize = 0;
-    while k < SLOTS {
-        if set[k] & (k / PAGES == space) & !(k == but) {
+    if SPACES <= space {
+        return false;
+    }
+    let first = space * PAGES;
+    let mut page: usize = 0;
+    while page < PAGES {
+        let k = first + page;
+        if set[k] & !(k == but) {
             return true;
         }
-        k += 1;
+        page += 1;
+    }
+    false
+}
+
+// Whether a page of the space, other than this one, has the source on its line. One turn visits one page of the line of page k.
+fn other_below(slots: [Slot; SLOTS], space: usize, source: usize, but: usize) -> bool
+    ensures { λ r. ⌜ r ≡ otherIn sizes (lineHas sizes slots (onlyPage sizes source)) space but ⌝ }
+{
+    if SPACES <= space {
+        return false;
+    }
+    let first = space * PAGES;
+    let mut page: usize = 0;
+    let mut at = first;
+    let mut left: usize = SPACES;
+    while page < PAGES {
+        let k = first + page;
+        let hit = at == source;
+        if hit & !(k == but) {
+            return true;
+        }
+        let slot = slots[at];
+        let link = slot.link;
+        let up = parent(link);
+        if hit | (SLOTS <= up) | (left <= 1) {
+            page += 1;
+            at = k + 1;
+            left = SPACES;
+        } else {
+            at = up;
+            left -= 1;
+        }
     }
     false
 }
@@ -111,7 +148,7 @@ pub fn lines_number(
     let to = taker / PAGES;
     let ring = meets(slots, giver, to);
     let source_below = other_in(under, source / PAGES, taker);
-    let taker_below = other_in(line_has(slots, only(source)), to, taker);
+    let taker_below = other_below(slots, to, source, taker);
     pick(
         !is_held,
         11,

@@ -30,14 +30,8 @@ meets-requires c κs = search needs
 other-in-requires : tie.Need-other-in-requires
 other-in-requires c κs = search needs
 
-only-requires : tie.Need-only-requires
-only-requires c κs = search needs
-
-line-has-requires : tie.Need-line-has-requires
-line-has-requires c κs = search needs
-
-other-in-requires-2 : tie.Need-other-in-requires-2
-other-in-requires-2 c κs = search needs
+other-below-requires : tie.Need-other-below-requires
+other-below-requires c κs = search needs
 
 pick-requires : tie.Need-pick-requires
 pick-requires c κs = search needs
@@ -58,9 +52,9 @@ returns : tie.Need-returns
 returns c =
     let picked = c .before .before .before .before in
     let walked = picked .before .before .before in
-    let judged = walked .before .before .before in
-    lines-made sizes _ _ _ _ _ _ _ _ _ _ _ _ _ _ _ _ _ _ _ (judged .before .before .before .inside .ensures) (judged .before .held .ensures) (judged .within .ensures) (walked .before .before .meets .ensures)
-    (walked .before .other-in .ensures) (walked .only .ensures) (picked .before .before .line-has .ensures) (picked .before .other-in2 .ensures)
+    let judged = walked .before in
+    lines-made sizes _ _ _ _ _ _ _ _ _ _ _ _ _ _ _ _ _ (judged .before .before .before .inside .ensures) (judged .before .held .ensures) (judged .within .ensures) (walked .meets .ensures)
+    (picked .before .before .other-in .ensures) (picked .before .other-below .ensures)
     (picked .pick .ensures) (c .before .before .before .pick2 .ensures) (c .before .before .pick3 .ensures) (c .before .pick4 .ensures) (c .pick5 .ensures)
 
 pub lines-number-spec : {M : Type 1} → statement M
@@ -74,9 +68,7 @@ lines-number-spec =
     within-requires
     meets-requires
     other-in-requires
-    only-requires
-    line-has-requires
-    other-in-requires-2
+    other-below-requires
     pick-requires
     pick-requires-2
     pick-requires-3
