@@ -419,6 +419,25 @@ mod tests {
         Fault::OutLeftAlone,
     ];
 
+    /// Whether the last of these pages of space 0, read one after the other, is a hit on entry and on premium.
+    fn last_hits(pages: &[u32]) -> [bool; 2] {
+        Sizes::MODELS.map(|sizes| {
+            let mut board = Board::start(sizes);
+            let hits = pages.iter().map(|page| board.translate(0, PAGE_BYTES as u32 * page, 4).unwrap().hit);
+            hits.last().unwrap()
+        })
+    }
+
+    /// Short lists of reads after which the two caches answer differently.
+    #[test]
+    fn after_a_replacement_a_hit_may_be_on_either_alone() {
+        let eight: Vec<u32> = (0..8).collect();
+        assert_eq!(last_hits(&[&eight[..], &[0]].concat()), [true, true]);
+        assert_eq!(last_hits(&[&eight[..], &[8, 0]].concat()), [false, true]);
+        let sixteen: Vec<u32> = (0..16).collect();
+        assert_eq!(last_hits(&[&sixteen[..], &[0, 16, 0]].concat()), [true, false]);
+    }
+
     /// Limits that were left do not show in calls for both.
     #[test]
     fn only_numbers_that_both_have_or_neither_has_are_used() {

@@ -760,8 +760,7 @@ pub fn edge_sessions(sizes: Sizes) -> Vec<Vec<u8>> {
     sessions.push(longest_line(sizes).into_bytes());
     sessions.extend(lines_around(80));
     sessions.extend(cut_lines());
-    sessions.push(vec![b'\n'; INPUT_LIMIT - 1]);
-    sessions.push(vec![b'\n'; INPUT_LIMIT]);
+    sessions.extend((INPUT_LIMIT - 1..=INPUT_LIMIT + 1).map(few_lines));
     sessions.push(vec![b'\n'; INPUT_LIMIT + 1]);
     sessions.push(b"#\n".repeat(INPUT_LIMIT / 2 + 3));
     sessions.push(vec![b'#'; 3 * INPUT_LIMIT]);
@@ -807,6 +806,12 @@ fn lines_around(length: usize) -> Vec<Vec<u8>> {
     let padded = |length: usize| [call, &" ".repeat(length - call.len()), "\n", call, "\n"].concat().into_bytes();
     let comment = |length: usize| ["#", &"c".repeat(length - 1), "\n", call, "\n"].concat().into_bytes();
     (length - 1..=length + 1).flat_map(|length| [padded(length), comment(length)]).collect()
+}
+
+/// An input of so many bytes: a comment, and empty lines.
+fn few_lines(length: usize) -> Vec<u8> {
+    let empty = 200;
+    [vec![b'#'; length - empty], vec![b'\n'; empty]].concat()
 }
 
 /// Every way in which the limit can cut a line of two numbers.
