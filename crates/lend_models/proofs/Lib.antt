@@ -9,6 +9,7 @@ pub mod Counts
 pub mod WideStart
 pub mod SameNumber
 pub mod SameCommand
+pub mod SameRange
 pub mod CacheAfter
 pub mod SameCache
 pub mod HitsDiffer

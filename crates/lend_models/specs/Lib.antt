@@ -1,3 +1,4 @@
 pub mod Embedding
 pub mod Agreement
+pub mod RangeAgreement
 pub mod Witness
