@@ -9,14 +9,20 @@ use Rattle.lend.specs.Sizes.{entry, premium}
 use Rattle.lend.specs.Tables.{alone}
 use Rattle.lend.specs.Sound.{Sound}
 use Rattle.lend.specs.Calls.{Call, Translate, Load, Store, Outcome, step}
+use Rattle.lend.specs.Ranges.{RangeCall, RangeOutcome, rangeStep}
 use Rattle.lend_lending.proofs.Always.{step-sound}
+use Rattle.lend_lending.proofs.RangeCalls.{range-sound}
 use Rattle.lend_models.specs.Agreement.{inLimits, takesMemory, moreBytes, Agree}
+use Rattle.lend_models.specs.RangeAgreement.{rangeInLimits, RangeAgree}
 use Rattle.lend_models.proofs.Wide.{entry-fits}
 use Rattle.lend_models.proofs.SameCommand.{same-command}
+use Rattle.lend_models.proofs.SameRange.{same-range}
 use Rattle.entry.specs.declared.Board as small
 use Rattle.entry.specs.Board.{tables}
 use Rattle.entry_calls.specs.declared.Answer as small-call
 use Rattle.entry_calls.specs.Answer.{outcome}
+use Rattle.entry_calls.specs.declared.RangeAnswer as small-range
+use Rattle.entry_calls.specs.RangeAnswer.{rangeOutcome}
 use Rattle.entry_access.specs.declared.Translated as small-look
 use Rattle.entry_access.specs.declared.Loaded as small-load
 use Rattle.entry_access.specs.declared.Stored as small-store
@@ -25,6 +31,8 @@ use Rattle.premium.specs.declared.Board as large
 use Rattle.premium.specs.Board as wide
 use Rattle.premium_calls.specs.declared.Answer as large-call
 use Rattle.premium_calls.specs.Answer as wide-call
+use Rattle.premium_calls.specs.declared.RangeAnswer as large-range
+use Rattle.premium_calls.specs.RangeAnswer as wide-range
 use Rattle.premium_access.specs.declared.Translated as large-look
 use Rattle.premium_access.specs.declared.Loaded as large-load
 use Rattle.premium_access.specs.declared.Stored as large-store
@@ -98,3 +106,29 @@ module _ (b : small.Board) (c : large.Board) (both : Together b c) where
   stores-same memory rest after wide-after long space address byte h r s is-r is-s =
       let a = admitted rest memory b c both (Store space address byte) h (λ t. long) (stored r after) (wide-look.stored s wide-after) is-r is-s (r .board) (s .board) refl refl in
       (a .0 .same-number, a .0 .embeds-again .memory-same, a .1)
+
+  -- unmap, flush, map and grant over ranges that name the same pages on both: the same number, done and count; the same offset where a page
+  -- or the call is refused
+  pub ranges-same : (call : RangeCall) → T (rangeInLimits entry call) → (r : small-range.RangeAnswer) (s : large-range.RangeAnswer)
+      → rangeOutcome r ≡ rangeStep entry (alone (tables b)) call → wide-range.rangeOutcome s ≡ rangeStep premium (alone (wide.tables c)) call
+      → (s .number ≡ r .number) × (s .done ≡ r .done) × (s .emptied ≡ r .emptied) × ((r .number ≡ 0 → ⊥) → s .offset ≡ r .offset)
+      × Together (r .board) (s .board)
+  ranges-same call h r s is-r is-s =
+      let a = ranges-agree in (
+        a .same-number,
+        a .same-done,
+        a .same-emptied,
+        a .same-offset,
+        record {
+          entry-sound = subst (λ (o : RangeOutcome). Sound entry (o .state .board)) (sym is-r) (range-sound entry (lit< tt) (alone (tables b)) (both .entry-sound) call);
+          premium-sound = subst (λ (o : RangeOutcome). Sound premium (o .state .board)) (sym is-s) (range-sound premium (lit< tt) (alone (wide.tables c)) (both .premium-sound) call);
+          slots-same = a .embeds-again .slots-same;
+          live-same = a .embeds-again .live-same;
+        },
+      )
+    where
+      ranges-agree : RangeAgree entry premium [] (rangeOutcome r) (wide-range.rangeOutcome s)
+      ranges-agree =
+          rw (is-r, is-s)
+          (same-range entry premium entry-fits (lit< tt) [] (alone (tables b)) (alone (wide.tables c)) (both .entry-sound) (both .premium-sound)
+          (record { slots-same = both .slots-same; live-same = both .live-same; memory-same = refl }) call h)
