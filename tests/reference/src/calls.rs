@@ -187,8 +187,9 @@ impl Kind {
     pub const SCRIPT: [Kind; 7] =
         [Kind::Create, Kind::Delete, Kind::Unmap, Kind::Flush, Kind::Map, Kind::Grant, Kind::Translate];
 
-    /// The calls of the library that answer a number of the table (`sound` answers yes or no).
-    pub const LIBRARY: [Kind; 14] = [
+    /// The calls of the library that answer a number of the table (`sound` answers yes or no): start, those for one page or one
+    /// space, and those for ranges.
+    pub const LIBRARY: &'static [Kind] = &[
         Kind::Start,
         Kind::Create,
         Kind::Delete,
@@ -206,34 +207,10 @@ impl Kind {
     ];
 
     /// The calls that act on a board, so all but start and sound.
-    pub const BOARD: [Kind; 13] = [
-        Kind::Create,
-        Kind::Delete,
-        Kind::Unmap,
-        Kind::Flush,
-        Kind::Map,
-        Kind::Grant,
-        Kind::Translate,
-        Kind::Load,
-        Kind::Store,
-        Kind::UnmapRange,
-        Kind::FlushRange,
-        Kind::MapRange,
-        Kind::GrantRange,
-    ];
+    pub const BOARD: &'static [Kind] = Kind::LIBRARY.split_at(1).1;
 
     /// The calls for one page or one space.
-    pub const ONE_PAGE: [Kind; 9] = [
-        Kind::Create,
-        Kind::Delete,
-        Kind::Unmap,
-        Kind::Flush,
-        Kind::Map,
-        Kind::Grant,
-        Kind::Translate,
-        Kind::Load,
-        Kind::Store,
-    ];
+    pub const ONE_PAGE: &'static [Kind] = Kind::BOARD.split_at(9).0;
 
     pub fn name(self) -> &'static str {
         match self {

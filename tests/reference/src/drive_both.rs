@@ -157,7 +157,7 @@ impl<'a> Both<'a> {
         let start = Pair::of(&board, patterned_memory(ENTRY), &rest);
         let mut pair = start.clone();
         let mut calls = Vec::new();
-        let mut composer = Composer::new(&Kind::ONE_PAGE);
+        let mut composer = Composer::new(Kind::ONE_PAGE);
         let longest = random.pick(&[30, 100, 1000]);
         let reads = random.pick(&[0, 30, 60]);
         for _ in 0..random.between(5, longest) {
@@ -271,7 +271,7 @@ impl<'a> Both<'a> {
 fn compose(random: &mut Random, composer: &mut Composer, board: &Board, reads: usize) -> Call {
     loop {
         let reading = random.chance(reads);
-        let call = if reading { read(random, board, &Kind::ONE_PAGE) } else { composer.compose(random, board) };
+        let call = if reading { read(random, board, Kind::ONE_PAGE) } else { composer.compose(random, board) };
         if is_for_both(&call) {
             return call;
         }

@@ -84,7 +84,7 @@ impl<'a> Driver<'a> {
         let start = self.start_world(random);
         let mut world = start.clone();
         let mut calls = Vec::new();
-        let mut composer = Composer::new(&Kind::BOARD);
+        let mut composer = Composer::new(Kind::BOARD);
         for _ in 0..random.between(100, 1500) {
             if limit.over(self.passed) {
                 break;
@@ -116,7 +116,7 @@ impl<'a> Driver<'a> {
         let (start, calls) = match random.below(20) {
             0..=2 => (self.with_wrong_memory(random, board, start), trip_calls(random, board, &[Kind::Load, Kind::Store])),
             3..=7 => (start, trip_calls(random, board, &[Kind::Map, Kind::Grant, Kind::Flush, Kind::Translate])),
-            _ => (self.with_damaged_image(random, board, start), trip_calls(random, board, &Kind::BOARD)),
+            _ => (self.with_damaged_image(random, board, start), trip_calls(random, board, Kind::BOARD)),
         };
         let mut world = start.clone();
         for made in 1..=calls.len() {

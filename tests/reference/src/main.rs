@@ -159,7 +159,7 @@ fn drive_calls(options: &Options, subject: &mut dyn Subject) -> bool {
     println!("library calls, {} model, seed {}", options.sizes.name(), options.seed);
     let mut driver = Driver::new(options.sizes, subject);
     let report = driver.drive(options.seed, &options.limit());
-    print!("{}{}", driver.tally.table(&Kind::LIBRARY), driver.tally.corners());
+    print!("{}{}", driver.tally.table(Kind::LIBRARY), driver.tally.corners());
     let rounds = driver.sweep_hundredths() as f64 / 100.0;
     println!("every byte of an image had every telling value {rounds:.2} times");
     conclude(driver.passed, report, driver.tally.missing_of_library())
@@ -169,7 +169,7 @@ fn drive_both(options: &Options, entry: &mut dyn Subject, premium: &mut dyn Subj
     println!("the same calls on both models, seed {}", options.seed);
     let mut both = Both::new(entry, premium);
     let report = both.drive(options.seed, &options.limit());
-    print!("{}{}{}", both.tally.table(&Kind::ONE_PAGE), both.tally.corners(), both.hits.table());
+    print!("{}{}{}", both.tally.table(Kind::ONE_PAGE), both.tally.corners(), both.hits.table());
     conclude(both.passed, report, both.missing())
 }
 

@@ -857,7 +857,7 @@ mod tests {
         for (sizes, calls, full) in [(Sizes::ENTRY, 20_000, 150), (Sizes::PREMIUM, 10_000, 300)] {
             let mut random = Random::new(2);
             let mut board = Board::start(sizes);
-            let mut composer = Composer::new(&Kind::BOARD);
+            let mut composer = Composer::new(Kind::BOARD);
             let mut memory = vec![0; sizes.memory()];
             let (mut deepest, mut fullest, mut wraps) = (0, 0, 0);
             for _ in 0..calls {

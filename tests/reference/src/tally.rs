@@ -107,7 +107,7 @@ impl Tally {
     }
 
     pub fn missing_of_library(&self) -> Vec<String> {
-        let mut missing = self.missing(&Kind::LIBRARY, |_| true);
+        let mut missing = self.missing(Kind::LIBRARY, |_| true);
         missing.extend(self.missing(&[Kind::Sound], |_| true));
         missing.extend(self.missing_corners(&Corner::OF_ONE_PAGE));
         missing.extend(self.missing_corners(&Corner::OF_RANGES));
@@ -117,7 +117,7 @@ impl Tally {
 
     /// Of calls for one page on sound boards with memory of the right length.
     pub fn missing_of_one_page(&self) -> Vec<String> {
-        self.missing(&Kind::ONE_PAGE, |number| number > 2 || number == 0)
+        self.missing(Kind::ONE_PAGE, |number| number > 2 || number == 0)
     }
 
     fn missing(&self, kinds: &[Kind], possible: impl Fn(u32) -> bool) -> Vec<String> {
