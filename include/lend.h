@@ -35,7 +35,10 @@ enum lend_number {
     LEND_NOT_HELD = 12,        /* rights asked for are not all held */
     LEND_RING = 13,            /* a page on the giver's line, its own page included, is in the taker's space */
     LEND_SOURCE_BELOW = 14,    /* a page of the source's space is below the taker's page */
-    LEND_TAKER_BELOW = 15      /* a page of the taker's space, other than the taker's page, is below the source */
+    LEND_TAKER_BELOW = 15,     /* a page of the taker's space, other than the taker's page, is below the source */
+    LEND_LISTING = 17,         /* a listing is malformed */
+    LEND_LISTING_ORDER = 18,   /* a listing's pages are out of order or named twice, or their number is wrong */
+    LEND_BUFFER = 20           /* the text is too short for the listing */
 };
 
 /* Rights are a sum of these. */
@@ -96,6 +99,12 @@ uint32_t lend_entry_start(uint8_t *image, size_t image_length, uint32_t out[4]);
 /* 1 where the image is a sound board's, else 0. */
 uint32_t lend_entry_sound(uint8_t *image, size_t image_length);
 
+/* Writes the listing of a sound board. out[0]: its length. The image is only read. */
+uint32_t lend_entry_write_listing(uint8_t *image, size_t image_length, uint8_t *text, size_t text_length, uint32_t out[4]);
+/* Reads a listing over any bytes of the image's length: the board that it lists, with an empty cache, and where it is refused the start
+ * board. The text is only read. */
+uint32_t lend_entry_read_listing(uint8_t *image, size_t image_length, uint8_t *text, size_t text_length, uint32_t out[4]);
+
 /* out[0]: how many pages were held before the call and are empty after it. The other fields are 0. */
 uint32_t lend_entry_create(uint8_t *image, size_t image_length, uint32_t space, uint32_t out[4]);
 uint32_t lend_entry_delete(uint8_t *image, size_t image_length, uint32_t space, uint32_t out[4]);
@@ -147,6 +156,12 @@ uint32_t lend_premium_start(uint8_t *image, size_t image_length, uint32_t out[4]
 
 /* 1 where the image is a sound board's, else 0. */
 uint32_t lend_premium_sound(uint8_t *image, size_t image_length);
+
+/* Writes the listing of a sound board. out[0]: its length. The image is only read. */
+uint32_t lend_premium_write_listing(uint8_t *image, size_t image_length, uint8_t *text, size_t text_length, uint32_t out[4]);
+/* Reads a listing over any bytes of the image's length: the board that it lists, with an empty cache, and where it is refused the start
+ * board. The text is only read. */
+uint32_t lend_premium_read_listing(uint8_t *image, size_t image_length, uint8_t *text, size_t text_length, uint32_t out[4]);
 
 /* out[0]: how many pages were held before the call and are empty after it. The other fields are 0. */
 uint32_t lend_premium_create(uint8_t *image, size_t image_length, uint32_t space, uint32_t out[4]);

@@ -25,6 +25,7 @@ CRATES = {
     'entry_demands': 'premium_demands',
     'entry_image': 'premium_image',
     'lend_entry': 'lend_premium',
+    'entry_listing': 'premium_listing',
     'entry_script': 'premium_script',
     'board_script': 'board_script_premium',
 }
@@ -38,7 +39,7 @@ HEADER = ('/* ---- the entry model -', '/* ---- the premium model: made from the
 def renamed(text):
     """The text with the premium model's name where the entry model is meant; a cache has entries too, and those stay."""
     text = re.sub(r'\b(lend[_-])entry(?=\b|_)', r'\1premium', text)
-    text = re.sub(r'\bentry(?=_(calls|lending|access|demands|image|script)\b)', 'premium', text)
+    text = re.sub(r'\bentry(?=_(calls|lending|access|demands|image|listing|script)\b)', 'premium', text)
     text = re.sub(r'(?<=Rattle·)entry(?=[.·])', 'premium', text)
     text = re.sub(r'(?<=\buse )entry(?=[ :;])', 'premium', text)
     text = re.sub(r'\bboard_script\b', 'board_script_premium', text)

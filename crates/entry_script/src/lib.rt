@@ -1,5 +1,4 @@
 // A script run on a board of this model, from the bytes of the input to the bytes of the output.
 mod judge;
 mod lines;
-mod listing;
 pub mod run;

@@ -1,8 +1,8 @@
 // The lines of a script, one after the other, from the start board to the listing.
 use crate::judge::line_turn;
-use crate::listing::put_ending;
 use calls::start::start;
 use entry_calls as calls;
+use entry_listing::write::put_listing;
 use script::say;
 use text::line::line_end;
 ghost use Prim.Native.Nat.{_≤_};
@@ -30,5 +30,5 @@ pub(crate) fn run_lines(input: &[u8], out: &mut [u8]) -> usize
         line += 1;
         from = end + 1;
     }
-    put_ending(out, at, board)
+    put_listing(out, at, board)
 }

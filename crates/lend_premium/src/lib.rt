@@ -5,6 +5,7 @@ pub mod access;
 pub mod board;
 mod finish;
 pub mod lending;
+pub mod listed;
 pub mod ranges;
 pub mod spaces;
 pub mod withdraw;

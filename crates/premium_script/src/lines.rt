@@ -1,9 +1,9 @@
 // Made by tools/models.py from crates/entry_script/src/lines.rt: change that file.
 // The lines of a script, one after the other, from the start board to the listing.
 use crate::judge::line_turn;
-use crate::listing::put_ending;
 use calls::start::start;
 use premium_calls as calls;
+use premium_listing::write::put_listing;
 use script::say;
 use text::line::line_end;
 ghost use Prim.Native.Nat.{_≤_};
@@ -31,5 +31,5 @@ pub(crate) fn run_lines(input: &[u8], out: &mut [u8]) -> usize
         line += 1;
         from = end + 1;
     }
-    put_ending(out, at, board)
+    put_listing(out, at, board)
 }

@@ -8,12 +8,8 @@ use native.Mathlib.Omega.{arith}
 use lib.ListN.{length, length-append, take, length-take}
 use native.Mathlib.Nat.{min-le-left}
 use lib.Dec.{eqb}
-use Rattle.lend.specs.Sizes.{Sizes, slotCount, entry, premium, spaceOf}
-use Rattle.lend.specs.declared.Link.{Link}
-use Rattle.lend.specs.declared.Link.the-variants.{Nothing, Frame, Page}
-use Rattle.lend.specs.declared.Slot.{Slot}
-use Rattle.lend.specs.Slots.{Table}
-use Rattle.lend.specs.Tables.{Tables, State, tableOf, alone}
+use Rattle.lend.specs.Sizes.{Sizes, slotCount, entry, premium}
+use Rattle.lend.specs.Tables.{State, alone}
 use Rattle.lend.specs.Start.{startBoard}
 use Rattle.lend.specs.Calls.{Reply}
 use Rattle.text.specs.declared.Request.{Request}
@@ -21,13 +17,14 @@ use Rattle.text.specs.declared.Request.the-variants.{Create, Delete, Unmap, Flu
 use Rattle.text.specs.Ascii.{newline}
 use Rattle.text.specs.Lines.{lines, inFront}
 use Rattle.text.specs.Request.{requestOf, isComment, spell}
-use Rattle.text.specs.Write.{Wrote, lastPosition, answerLine, translationLine, malformedLine, pageLine, heldLine}
+use Rattle.text.specs.Write.{Wrote, lastPosition, answerLine, translationLine, malformedLine}
 use Rattle.text.specs.Write as write
 use Rattle.text.proofs.Digits.{decimal-longest, decimal-shorter}
 use Rattle.text.proofs.Writing.{Exactly, wrote-exactly}
 use Rattle.text_laws.proofs.Requests.{Spelt, request-back, spell-shortest}
+use Rattle.listing.proofs.Length.{listing-length}
 use Rattle.script.specs.Bound.{outputBound}
-use Rattle.script.specs.Script.{judged, saidOf, turn, silent, spoken, saidLine, pageIn, linkLine, slotLine, listingFrom, listing, heldOutside, ending, answers, outputOf, inputLimit, scriptOutput}
+use Rattle.script.specs.Script.{judged, saidOf, turn, silent, spoken, saidLine, answers, outputOf, inputLimit, scriptOutput}
 
 -- ── each line that is written ────────────────────────────────────────────
 answer-length : (n a e : ℕ) → length (answerLine n a e) ≤ 63
@@ -46,15 +43,6 @@ translation-length n a x hit =
 malformed-length : (n : ℕ) → n ≤ 99999 → length (malformedLine n) ≤ 21
 unfolding malformedLine write.entry
 malformed-length n h = simp length-append (omega (arith, decimal-shorter 4 n (omega arith)))
-
-page-length : (s p q r t : ℕ) → length (pageLine s p q r t) ≤ 83
-unfolding pageLine write.entry
-page-length s p q r t =
-    simp length-append (omega (arith, decimal-longest s, decimal-longest p, decimal-longest q, decimal-longest r, decimal-longest t))
-
-held-length : (n : ℕ) → length (heldLine n) ≤ 16
-unfolding heldLine write.entry
-held-length n = simp length-append (omega (arith, decimal-longest n))
 
 -- ── a turn ───────────────────────────────────────────────────────────────
 said-length : (n : ℕ) (q : Request) (r : Reply) → n ≤ 99999 → length (saidLine n (saidOf q r)) ≤ 63
@@ -84,26 +72,6 @@ turn-length z n st line h = go (isComment line)
     go true = zero-le
     go false = request-length n line (requestOf line) (judged z st (requestOf line) .reply) h (request-back line)
 
--- ── the end ──────────────────────────────────────────────────────────────
-link-length : (s p r : ℕ) (link : Link) → length (linkLine s p r link) ≤ 83
-link-length s p r Nothing = zero-le
-link-length s p r (Frame i) = page-length s p 0 0 r
-link-length s p r (Page t q) = page-length s p t q r
-
-slot-length : (s p : ℕ) (slot : Slot) → length (slotLine s p slot) ≤ 83
-unfolding slotLine
-slot-length s p slot = link-length s p (slot .rights) (slot .link)
-
-listing-length : (z : Sizes) (f : Table) (k n : ℕ) → length (listingFrom z f k n) ≤ 83 * n
-unfolding listingFrom
-listing-length z f k zero = zero-le
-listing-length z f k (suc n) = rw length-append (omega (arith, slot-length (spaceOf z k) (pageIn z k) (f k), listing-length z f (suc k) n))
-
-pub ending-length : (z : Sizes) (b : Tables) → length (ending z b) ≤ 83 * (slotCount z - z .pages) + 16
-unfolding ending listing
-ending-length z b =
-    rw length-append (omega (arith, listing-length z (tableOf b) (z .pages) (slotCount z - z .pages), held-length (heldOutside z (tableOf b))))
-
 -- ── all lines ────────────────────────────────────────────────────────────
 -- the bytes of some lines, with a newline each
 weight : List (List ℕ) → ℕ
@@ -131,9 +99,9 @@ lines-few (b ∷ bs) = go (eqb b newline) (lines bs) (lines-few bs)
     go false (l ∷ ls) h = omega arith
 
 answers-length : (z : Sizes) (n : ℕ) (st : State) (ls : List (List ℕ)) → n + length ls ≤ 100000
-    → length (answers z n st ls) ≤ 21 * weight ls + (83 * (slotCount z - z .pages) + 16)
+    → length (answers z n st ls) ≤ 21 * weight ls + (83 * (slotCount z - z .pages) + 32)
 unfolding answers weight
-answers-length z n st [] h = omega (arith, ending-length z (st .board))
+answers-length z n st [] h = omega (arith, listing-length z (st .board))
 answers-length z n st (l ∷ ls) h =
     rw length-append
     (omega (arith, turn-length z n st l (omega arith), answers-length z (n + 1) (turn z st l .state) ls (omega arith)))
@@ -150,11 +118,11 @@ script-length z s =
     let l : length (take inputLimit s) ≤ inputLimit = rw length-take (min-le-left inputLimit (length s)) in
     omega (arith, output-length z (take inputLimit s) l)
 
-pub entry-bound : outputBound entry inputLimit ≡ 1394885
+pub entry-bound : outputBound entry inputLimit ≡ 1394901
 unfolding outputBound
 entry-bound = refl
 
-pub premium-bound : outputBound premium inputLimit ≡ 1455973
+pub premium-bound : outputBound premium inputLimit ≡ 1455989
 unfolding outputBound
 premium-bound = refl
 

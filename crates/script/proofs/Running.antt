@@ -12,8 +12,9 @@ use Rattle.text.specs.Lines.{lines, lineLength}
 use Rattle.text.specs.Write.{Page, page, puts, Wrote}
 use Rattle.text.proofs.Writing.{puts-more}
 use Rattle.text.proofs.Seeking.{lines-first}
+use Rattle.listing.specs.Listing.{listingOf}
 use Rattle.script.specs.declared.Said.{Said}
-use Rattle.script.specs.Script.{Turn, turn, saidLine, ending, answers, outputOf}
+use Rattle.script.specs.Script.{Turn, turn, saidLine, answers, outputOf}
 
 -- the state is st before line n, which starts at `from`; the output is written up to `at`
 pub record Running (z : Sizes) (s out₀ out : List ℕ) (st : State) (n from at : ℕ) : Type 0 where
@@ -46,6 +47,6 @@ module _ {z : Sizes} {s out₀ out : List ℕ} {st : State} {n from at : ℕ} (g
       record { count = omega arith; left = turned z n st _ (drop from s) _ _ f (ap (λ (t : Turn). t .state) q) (rw (← q) w) (g .left) }
 
   -- no line is left, and the end is written
-  pub run-end : {out′ : List ℕ} {r : ℕ} → length s ≤ from → Wrote out at (ending z (st .board)) out′ r → Wrote out₀ 0 (outputOf z s) out′ r
+  pub run-end : {out′ : List ℕ} {r : ℕ} → length s ≤ from → Wrote out at (listingOf z (st .board)) out′ r → Wrote out₀ 0 (outputOf z s) out′ r
   unfolding answers lines
   run-end h w = record { is = w .is ∙ rw (drop-of-length-le s h) at (g .left) }

@@ -1,16 +1,11 @@
--- The script program as a definition, from the bytes of the input to the bytes of the output (01, 'The script program').
-use Prim.Native.Nat.{ℕ, zero, suc, _+_, _-_, _%_}
-use mathlib.Core.Bool.{not, _&&_, cond}
+-- The script program as a definition, from the bytes of the input to the bytes of the output (01, 'The script program'; the end is the listing of the board, crate listing).
+use Prim.Native.Nat.{ℕ, _+_}
+use mathlib.Core.Bool.{cond}
 use mathlib.Core.List.{List, [], _∷_, _++_}
 use mathlib.Core.Option.{Option, none, some}
 use lib.ListN.{take}
-use Rattle.lend.specs.declared.Link.{Link}
-use Rattle.lend.specs.declared.Link.the-variants.{Nothing, Frame, Page}
-use Rattle.lend.specs.declared.Slot.{Slot}
-use Rattle.lend.specs.Sizes.{Sizes, slotCount, spaceOf, inPool}
-use Rattle.lend.specs.Lists.{count}
-use Rattle.lend.specs.Slots.{Table, held}
-use Rattle.lend.specs.Tables.{Tables, State, tableOf, alone}
+use Rattle.lend.specs.Sizes.{Sizes}
+use Rattle.lend.specs.Tables.{State, alone}
 use Rattle.lend.specs.Start.{startBoard}
 use Rattle.lend.specs.Calls.{Call, Reply, Outcome, step, refuse}
 use Rattle.text.specs.declared.Request.{Request}
@@ -19,7 +14,8 @@ use Rattle.text.specs.Request.{requestOf, isComment, callOf}
 use Rattle.text.specs.Lines.{lines}
 use Rattle.script.specs.declared.Said.{Said}
 use Rattle.script.specs.declared.Said.the-variants.{Silent, Garbled, Emptied, Translated}
-use Rattle.text.specs.Write.{answerLine, translationLine, malformedLine, pageLine, heldLine}
+use Rattle.text.specs.Write.{answerLine, translationLine, malformedLine}
+use Rattle.listing.specs.Listing.{listingOf}
 
 -- ── one line ─────────────────────────────────────────────────────────────
 -- a call is judged by the rules; a malformed line has number 16 and changes nothing
@@ -63,41 +59,10 @@ saidLine n Garbled = malformedLine n
 saidLine n (Emptied number emptied) = answerLine n number emptied
 saidLine n (Translated number address hit) = translationLine n number address hit
 
--- ── the end ──────────────────────────────────────────────────────────────
--- the line of a held page by its link; the parent of a frame's page is named 0, and such pages are in space 0 only
-abbrev pub linkLine : ℕ → ℕ → ℕ → Link → List ℕ
-linkLine space page rights Nothing = []
-linkLine space page rights (Frame i) = pageLine space page 0 0 rights
-linkLine space page rights (Page s p) = pageLine space page s p rights
-
--- the line of a page that keeps this slot, and none where it is empty
-unfoldable pub slotLine : ℕ → ℕ → Slot → List ℕ
-slotLine space page slot = linkLine space page (slot .rights) (slot .link)
-
--- the number that page k has in its space
-abbrev pub pageIn : Sizes → ℕ → ℕ
-pageIn z k = k % z .pages
-
--- the lines of n pages from page k on
-unfoldable pub listingFrom : Sizes → Table → ℕ → ℕ → List ℕ
-listingFrom z f k zero = []
-listingFrom z f k (suc n) = slotLine (spaceOf z k) (pageIn z k) (f k) ++ listingFrom z f (suc k) n
-
--- all held pages outside space 0, by rising space, then page
-unfoldable pub listing : Sizes → Table → List ℕ
-listing z f = listingFrom z f (z .pages) (slotCount z - z .pages)
-
--- their number
-unfoldable pub heldOutside : Sizes → Table → ℕ
-heldOutside z f = count (slotCount z) (λ k. not (inPool z k) && held (f k))
-
-unfoldable pub ending : Sizes → Tables → List ℕ
-ending z b = listing z (tableOf b) ++ heldLine (heldOutside z (tableOf b))
-
 -- ── the whole ────────────────────────────────────────────────────────────
 -- what lines print from a state on, the first of them being line n, and then the end
 unfoldable pub answers : Sizes → ℕ → State → List (List ℕ) → List ℕ
-answers z n st [] = ending z (st .board)
+answers z n st [] = listingOf z (st .board)
 answers z n st (line ∷ rest) = saidLine n (turn z st line .said) ++ answers z (n + 1) (turn z st line .state) rest
 
 -- an input that is read whole

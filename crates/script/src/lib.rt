@@ -1,20 +1,18 @@
-// What a line of a script says, and the listing's line of a slot, written out: once for both models. The whole program is the
+// What a line of a script says, written out: once for both models. The whole program is the
 // definition `scriptOutput` in specs/, and the laws that a model's loop stands on are in proofs/.
 ghost use mathlib.Core.Path.{_≡_};
 ghost use Rattle.text.specs.Write.{Wrote};
-ghost use Rattle.script.specs.Script.{saidLine, slotLine};
-use lend::Link;
-use lend::Slot;
+ghost use Rattle.script.specs.Script.{saidLine};
 
 // Only so many bytes of an input are read, and are the whole input.
 pub const INPUT_LIMIT: usize = 65536;
 
-// The most bytes that are printed for a byte of the input, for a page outside space 0, and by the last line (specs/Bound.antt).
+// The most bytes that are printed for a byte of the input, for a page outside space 0, and by the first and last line of the listing (specs/Bound.antt).
 pub const FOR_A_BYTE: usize = 21;
 
 pub const FOR_A_PAGE: usize = 83;
 
-pub const FOR_THE_END: usize = 16;
+pub const FOR_THE_END: usize = 32;
 
 // What a line says: a comment nothing, a malformed line its number 16, translate where it came to, any other call what it emptied.
 pub enum Said {
@@ -50,25 +48,5 @@ pub fn say(out: &mut [u8], at: usize, line: u32, said: Said) -> usize
             address,
             hit,
         } => text::write::put_translation(out, at, line, number, address, hit),
-    }
-}
-
-// The byte as a wider number.
-fn wide(byte: u8) -> u32
-    ensures { λ r. ⌜ r ≡ byte ⌝ }
-{
-    byte as u32
-}
-
-// Writes the listing's line of a page that keeps this slot, and nothing where it is empty.
-pub fn put_slot(out: &mut [u8], at: usize, space: u32, page: u32, slot: Slot) -> usize
-    ensures { λ r. ⌜ Wrote (now (out .entry)) at (slotLine space page slot) (now (out .exit)) r ⌝ }
-{
-    let link = slot.link;
-    let rights = wide(slot.rights);
-    match link {
-        Link::Nothing => at,
-        Link::Frame(_) => text::write::put_page(out, at, space, page, 0, 0, rights),
-        Link::Page(s, p) => text::write::put_page(out, at, space, page, wide(s), wide(p), rights),
     }
 }

@@ -20,8 +20,10 @@ use Rattle.text.specs.Decimal.{decimalIn, decimal, digitOf, firstDigit, oneMore
 use Rattle.text.specs.Fields.{keyAt, fieldAt, oneField, threeFields, fiveFields}
 use Rattle.text.specs.Lines.{lines}
 use Rattle.text.specs.Request.{createOr, deleteOr, unmapOr, flushOr, mapOr, grantOr, translateOr, requestOf, isComment}
-use Rattle.text.specs.Write.{entry, answerLine, translationLine, malformedLine, pageLine, heldLine}
-use Rattle.script.specs.Script.{judged, turn, saidLine, slotLine, listingFrom, listing, heldOutside, ending, answers, outputOf, scriptOutput}
+use Rattle.text.specs.Write.{entry, answerLine, translationLine, malformedLine, liveLine, pageLine, heldLine}
+use Rattle.listing.specs.Live.{liveNumber}
+use Rattle.listing.specs.Listing.{slotLine, pagesFrom, pagesListed, heldOutside, listingOf}
+use Rattle.script.specs.Script.{judged, turn, saidLine, answers, outputOf, scriptOutput}
 
 -- lines, each with its newline
 abbrev text : List String → List ℕ
@@ -49,34 +51,35 @@ output =
     ∷ "line=6 answer=0 emptied=0"
     ∷ "line=7 answer=12 address=0 hit=0"
     ∷ "line=8 answer=13 emptied=0"
+    ∷ "live=7"
     ∷ "space=1 page=0 parent=0 at=5 rights=7"
     ∷ "space=2 page=3 parent=1 at=0 rights=4"
     ∷ "held=2"
     ∷ []
 
 pub session : scriptOutput sizes.entry (text input) ≡ text output
-unfolding placeFor cached emptyIn goesTo nextAfter lostRight cases number boardAfter memoryAfter report step emptied mapped line frame every some count tabulateFrom less within slotTest pagesTest cacheTest soundTest startBoard physical hit looked unmapped flushed decimalIn decimal digitOf firstDigit oneMoreDigit numberAt keyAt fieldAt oneField threeFields fiveFields lines createOr deleteOr unmapOr flushOr mapOr grantOr translateOr requestOf isComment entry answerLine translationLine malformedLine pageLine heldLine judged turn saidLine slotLine listingFrom listing heldOutside ending answers outputOf scriptOutput
+unfolding placeFor cached emptyIn goesTo nextAfter lostRight cases number boardAfter memoryAfter report step emptied mapped line frame every some count tabulateFrom less within slotTest pagesTest cacheTest soundTest startBoard physical hit looked unmapped flushed decimalIn decimal digitOf firstDigit oneMoreDigit numberAt keyAt fieldAt oneField threeFields fiveFields lines createOr deleteOr unmapOr flushOr mapOr grantOr translateOr requestOf isComment entry answerLine translationLine malformedLine liveLine pageLine heldLine judged turn saidLine liveNumber slotLine pagesFrom pagesListed heldOutside listingOf answers outputOf scriptOutput
 session = refl
 
 -- and the same on the premium model
 pub premium-session : scriptOutput sizes.premium (text input) ≡ text output
-unfolding placeFor cached emptyIn goesTo nextAfter lostRight cases number boardAfter memoryAfter report step emptied mapped line frame every some count tabulateFrom less within slotTest pagesTest cacheTest soundTest startBoard physical hit looked unmapped flushed decimalIn decimal digitOf firstDigit oneMoreDigit numberAt keyAt fieldAt oneField threeFields fiveFields lines createOr deleteOr unmapOr flushOr mapOr grantOr translateOr requestOf isComment entry answerLine translationLine malformedLine pageLine heldLine judged turn saidLine slotLine listingFrom listing heldOutside ending answers outputOf scriptOutput
+unfolding placeFor cached emptyIn goesTo nextAfter lostRight cases number boardAfter memoryAfter report step emptied mapped line frame every some count tabulateFrom less within slotTest pagesTest cacheTest soundTest startBoard physical hit looked unmapped flushed decimalIn decimal digitOf firstDigit oneMoreDigit numberAt keyAt fieldAt oneField threeFields fiveFields lines createOr deleteOr unmapOr flushOr mapOr grantOr translateOr requestOf isComment entry answerLine translationLine malformedLine liveLine pageLine heldLine judged turn saidLine liveNumber slotLine pagesFrom pagesListed heldOutside listingOf answers outputOf scriptOutput
 premium-session = refl
 
 -- ── what else the document says of lines, each on a script of its own ────
 pub record Corners : Type 0 where
-  pub empty-input : scriptOutput sizes.entry [] ≡ bytes "held=0\n"
-  pub empty-line : scriptOutput sizes.entry (bytes "\n") ≡ bytes "line=1 answer=16\nheld=0\n"
-  pub newline-missing : scriptOutput sizes.entry (bytes "op=create space=2") ≡ bytes "line=1 answer=0 emptied=0\nheld=0\n"
-  pub comments-counted : scriptOutput sizes.entry (bytes "#\n# op=create\nop=create space=1\n") ≡ bytes "line=3 answer=10 emptied=0\nheld=0\n"
-  pub zero-in-front : scriptOutput sizes.entry (bytes "op=create space=02\n") ≡ bytes "line=1 answer=16\nheld=0\n"
-  pub five-digits : scriptOutput sizes.entry (bytes "op=create space=99999\n") ≡ bytes "line=1 answer=3 emptied=0\nheld=0\n"
-  pub six-digits : scriptOutput sizes.entry (bytes "op=create space=100000\n") ≡ bytes "line=1 answer=16\nheld=0\n"
-  pub space-after : scriptOutput sizes.entry (bytes "op=create space=2 \n") ≡ bytes "line=1 answer=16\nheld=0\n"
-  pub other-order : scriptOutput sizes.entry (bytes "op=unmap page=0 space=1 rights=2\n") ≡ bytes "line=1 answer=16\nheld=0\n"
+  pub empty-input : scriptOutput sizes.entry [] ≡ bytes "live=3\nheld=0\n"
+  pub empty-line : scriptOutput sizes.entry (bytes "\n") ≡ bytes "line=1 answer=16\nlive=3\nheld=0\n"
+  pub newline-missing : scriptOutput sizes.entry (bytes "op=create space=2") ≡ bytes "line=1 answer=0 emptied=0\nlive=7\nheld=0\n"
+  pub comments-counted : scriptOutput sizes.entry (bytes "#\n# op=create\nop=create space=1\n") ≡ bytes "line=3 answer=10 emptied=0\nlive=3\nheld=0\n"
+  pub zero-in-front : scriptOutput sizes.entry (bytes "op=create space=02\n") ≡ bytes "line=1 answer=16\nlive=3\nheld=0\n"
+  pub five-digits : scriptOutput sizes.entry (bytes "op=create space=99999\n") ≡ bytes "line=1 answer=3 emptied=0\nlive=3\nheld=0\n"
+  pub six-digits : scriptOutput sizes.entry (bytes "op=create space=100000\n") ≡ bytes "line=1 answer=16\nlive=3\nheld=0\n"
+  pub space-after : scriptOutput sizes.entry (bytes "op=create space=2 \n") ≡ bytes "line=1 answer=16\nlive=3\nheld=0\n"
+  pub other-order : scriptOutput sizes.entry (bytes "op=unmap page=0 space=1 rights=2\n") ≡ bytes "line=1 answer=16\nlive=3\nheld=0\n"
 
 pub corners : Corners
-unfolding placeFor cached emptyIn goesTo nextAfter lostRight cases number boardAfter memoryAfter report step emptied mapped line frame every some count tabulateFrom less within slotTest pagesTest cacheTest soundTest startBoard physical hit looked unmapped flushed decimalIn decimal digitOf firstDigit oneMoreDigit numberAt keyAt fieldAt oneField threeFields fiveFields lines createOr deleteOr unmapOr flushOr mapOr grantOr translateOr requestOf isComment entry answerLine translationLine malformedLine pageLine heldLine judged turn saidLine slotLine listingFrom listing heldOutside ending answers outputOf scriptOutput
+unfolding placeFor cached emptyIn goesTo nextAfter lostRight cases number boardAfter memoryAfter report step emptied mapped line frame every some count tabulateFrom less within slotTest pagesTest cacheTest soundTest startBoard physical hit looked unmapped flushed decimalIn decimal digitOf firstDigit oneMoreDigit numberAt keyAt fieldAt oneField threeFields fiveFields lines createOr deleteOr unmapOr flushOr mapOr grantOr translateOr requestOf isComment entry answerLine translationLine malformedLine liveLine pageLine heldLine judged turn saidLine liveNumber slotLine pagesFrom pagesListed heldOutside listingOf answers outputOf scriptOutput
 corners = record {
   empty-input = refl;
   empty-line = refl;

@@ -55,14 +55,14 @@ loop-less c = search needs
 loop-again : tie.Need-loop-again Inv-loop μ-loop
 loop-again c = run-turn (c .before .before .before .before .before .before .before .before .before .loop .inv) (search needs) (c .before .before .before .before .before .before .before .line-end .ensures) (c .before .before .before .before .before .line-turn .ensures) (c .before .before .say .ensures)
 
-put-ending-requires : tie.Need-put-ending-requires Inv-loop μ-loop
-put-ending-requires c κs = search needs
+put-listing-requires : tie.Need-put-listing-requires Inv-loop μ-loop
+put-listing-requires c κs = search needs
 
 same-length : tie.Need-same-length Inv-loop μ-loop
-same-length c = wrote-length (run-end (c .before .before .before .before .before .loop .inv) (search needs) (c .before .before .put-ending .ensures))
+same-length c = wrote-length (run-end (c .before .before .before .before .before .loop .inv) (search needs) (c .before .before .put-listing .ensures))
 
 returns : tie.Need-returns Inv-loop μ-loop
-returns c = run-end (c .before .before .before .before .before .loop .inv) (search needs) (c .before .before .put-ending .ensures)
+returns c = run-end (c .before .before .before .before .before .loop .inv) (search needs) (c .before .before .put-listing .ensures)
 
 pub run-lines-spec : {M : Type 1} → statement M
 run-lines-spec =
@@ -82,6 +82,6 @@ run-lines-spec =
     add-from
     loop-less
     loop-again
-    put-ending-requires
+    put-listing-requires
     same-length
     returns)

@@ -1,0 +1,2 @@
+-- Made by tools/models.py from crates/entry_listing/proofs/Lib.antt: change that file.
+pub mod Readable

@@ -1,0 +1,74 @@
+-- Made by tools/models.py from crates/entry_listing/proofs/read/read_listing/Proof.antt: change that file.
+-- `read_listing` meets its contract: no newline at the end, a bad first line, and the lines after it.
+use Rattle.premium_listing.proofs as own
+use Prim.Native.Nat.{ℕ, _≤_}
+use mathlib.Core.Path.{_≡_, sym, ap, _∙_}
+use mathlib.Core.Bool.{_&&_}
+use native.Mathlib.Omega.{arith}
+use lib.Dec.{leb}
+use lib.ListN.{length, take}
+use lib.Seq.{length-take-le}
+use borrow.Author.Tests.{not-true, not-false}
+use Rattle.text.proofs.Seeking.{line-within}
+use Rattle.listing.proofs.Loop.{not-ended, first-bad, first-read}
+use Rattle.premium.specs.Sizes.{sizes}
+use borrow.Author.Needs.{needs}
+use own.read.read_listing.Statement.{statement}
+use own.read.read_listing.Tie as tie
+
+ended-requires : tie.Need-ended-requires
+ended-requires c κs = search needs
+
+refused-requires : tie.Need-refused-requires
+refused-requires c κs = search needs
+
+returns : tie.Need-returns
+returns c = c .refused .ensures ∙ not-ended sizes _ (sym (c .before .before .ended .ensures) ∙ not-true _ (c .before .if1 .taken))
+
+line-end-requires : tie.Need-line-end-requires
+line-end-requires c κs = search needs
+
+slice-aggregate-live-fields : tie.Need-slice-aggregate-live-fields
+slice-aggregate-live-fields c = let h : c .before .line-end .result ≤ length (c .before .before .before .before .before .args .text .now) = line-within _ 0 _ (c .before .line-end .ensures) (omega arith) in sym (length-take-le {A = ℕ} (c .before .line-end .result) (c .before .before .before .before .before .args .text .now) h)
+
+live-fields-requires : tie.Need-live-fields-requires
+live-fields-requires c κs = search needs
+
+live-number-requires : tie.Need-live-number-requires
+live-number-requires c κs = search needs
+
+one-fits-requires : tie.Need-one-fits-requires
+one-fits-requires c κs = search needs
+
+refused-requires-2 : tie.Need-refused-requires-2
+refused-requires-2 c κs = search needs
+
+returns-2 : tie.Need-returns-2
+returns-2 c = c .refused2 .ensures ∙ first-bad sizes _ (sym (c .before .before .before .before .before .before .before .before .ended .ensures) ∙ not-false _ (c .before .before .before .before .before .before .before .if1 .left)) (c .before .before .before .before .before .before .line-end .ensures) (c .before .before .before .before .live-fields .ensures) (sym (c .before .before .one-fits .ensures ∙ ap (λ (m : ℕ). c .before .before .before .before .live-fields .result .ok && leb (c .before .before .before .before .live-fields .result .first) m) (c .before .before .before .live-number .ensures)) ∙ not-true _ (c .before .if2 .taken))
+
+add-read-from : tie.Need-add-read-from
+add-read-from c = let h : c .before .before .before .before .before .line-end .result ≤ length (c .before .before .before .before .before .before .before .before .before .args .text .now) = line-within _ 0 _ (c .before .before .before .before .before .line-end .ensures) (omega arith) in search needs
+
+read-from-requires : tie.Need-read-from-requires
+read-from-requires c κs = search needs
+
+returns-3 : tie.Need-returns-3
+returns-3 c = c .read-from .ensures ∙ first-read sizes _ (sym (c .before .before .before .before .before .before .before .before .ended .ensures) ∙ not-false _ (c .before .before .before .before .before .before .before .if1 .left)) (c .before .before .before .before .before .before .line-end .ensures) (c .before .before .before .before .live-fields .ensures) (sym (c .before .before .one-fits .ensures ∙ ap (λ (m : ℕ). c .before .before .before .before .live-fields .result .ok && leb (c .before .before .before .before .live-fields .result .first) m) (c .before .before .before .live-number .ensures)) ∙ not-false _ (c .before .if2 .left))
+
+pub read-listing-spec : {M : Type 1} → statement M
+read-listing-spec =
+    tie.close
+    (tie.spec
+    ended-requires
+    refused-requires
+    returns
+    line-end-requires
+    slice-aggregate-live-fields
+    live-fields-requires
+    live-number-requires
+    one-fits-requires
+    refused-requires-2
+    returns-2
+    add-read-from
+    read-from-requires
+    returns-3)
