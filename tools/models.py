@@ -28,6 +28,7 @@ CRATES = {
     'entry_listing': 'premium_listing',
     'entry_script': 'premium_script',
     'board_script': 'board_script_premium',
+    'board_script_from': 'board_script_from_premium',
 }
 # wrong programs are tried on the entry text, which is both models' text
 LEFT_OUT = ['must-fail']
@@ -42,7 +43,7 @@ def renamed(text):
     text = re.sub(r'\bentry(?=_(calls|lending|access|demands|image|listing|script)\b)', 'premium', text)
     text = re.sub(r'(?<=Rattle·)entry(?=[.·])', 'premium', text)
     text = re.sub(r'(?<=\buse )entry(?=[ :;])', 'premium', text)
-    text = re.sub(r'\bboard_script\b', 'board_script_premium', text)
+    text = re.sub(r'\bboard_script(_from)?\b', r'board_script\1_premium', text)
     return re.sub(r'\bLEND_ENTRY(?=_)', 'LEND_PREMIUM', text)
 
 

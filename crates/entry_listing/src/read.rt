@@ -12,6 +12,8 @@ use listing::read::held_fields;
 use listing::read::live_fields;
 use listing::read::one_fits;
 use listing::read::page_fields;
+use listing::read::refusal;
+use listing::read::rises;
 use model::Board;
 use model::Cache;
 use model::sizes::PAGES;
@@ -46,13 +48,10 @@ fn refused(number: u32) -> Read
     }
 }
 
-// 18 or 1, or the board with these slots and live spaces.
-fn judged(ordered: bool, slots: [Slot; SLOTS], live: u32) -> Read
-    ensures { λ r. ⌜ answer r ≡ judgedOf sizes ordered (boardWith sizes slots live) ⌝ }
+// The board with these slots and live spaces, or the number that is against it.
+fn judged(formed: bool, ordered: bool, slots: [Slot; SLOTS], live: u32) -> Read
+    ensures { λ r. ⌜ answer r ≡ judgedOf sizes formed ordered (boardWith sizes slots live) ⌝ }
 {
-    if !ordered {
-        return refused(18);
-    }
     let board = Board {
         slots,
         live: live_flags(live),
@@ -61,10 +60,11 @@ fn judged(ordered: bool, slots: [Slot; SLOTS], live: u32) -> Read
             next: 0,
         },
     };
-    if !sound(board) {
-        return refused(1);
+    let number = refusal(formed, ordered, sound(board));
+    if number != 0 {
+        return refused(number);
     }
-    Read { number: 0, board }
+    Read { number, board }
 }
 
 // Whether the line is a page's, with every number in its field.
@@ -114,10 +114,8 @@ fn read_from(text: &[u8], live: u32, at: usize) -> Read
         let end = line_end(text, from);
         if text.len() <= end + 1 {
             let held = held_fields(&text[from..end]);
-            if !one_fits(held, (SLOTS - PAGES) as u32) {
-                return refused(17);
-            }
-            return judged(rising & (count == held.first as usize), slots, live);
+            let formed = one_fits(held, (SLOTS - PAGES) as u32);
+            return judged(formed, rising & (count == held.first as usize), slots, live);
         }
         let f = page_fields(&text[from..end]);
         if !page_fits(f) {
@@ -125,7 +123,7 @@ fn read_from(text: &[u8], live: u32, at: usize) -> Read
         }
         let k = page_of(f);
         slots[k] = slot_of(f);
-        rising = rising & (last < k);
+        rising = rises(rising, last, k);
         last = k;
         count += 1;
         from = end + 1;

@@ -4,6 +4,7 @@ use mathlib.Core.Path.{_≡_, refl, sym, ap, _∙_}
 use mathlib.Core.Bool.{Bool, true, false, cond}
 use mathlib.Core.List.{List}
 use lib.ListN.{replicate}
+use borrow.Author.Tests.{ne-eqb}
 use Rattle.lend.specs.declared.Slot.{Slot}
 use Rattle.lend.specs.declared.Place.{Place}
 use Rattle.lend.specs.Sizes.{Sizes}
@@ -12,25 +13,21 @@ use Rattle.lend.specs.Cache.{emptyPlace}
 use Rattle.lend.specs.SoundTest.{soundTest, Tells}
 use Rattle.listing.specs.Live.{liveFlags}
 use Rattle.listing.specs.Content.{boardWith}
-use Rattle.listing.specs.Read.{Answer, refused, accepted, judged}
+use Rattle.listing.specs.Read.{Answer, refused, refusal, byNumber, judged}
 
 -- the board of a listing, piece by piece
 pub board-made : (z : Sizes) (slots : List Slot) (live : List Bool) (n : ℕ) (x : Place) → live ≡ liveFlags (z .spaces) n → x ≡ emptyPlace
     → _≡_ {A = Tables} (record { slots = slots; live = live; places = replicate (z .places) x; next = 0 }) (boardWith z slots n)
 board-made z slots live n x hl hx = rw (hl, hx)
 
-pub judged-disorder : (z : Sizes) (ordered : Bool) (b : Tables) → ordered ≡ false → refused z 18 ≡ judged z ordered b
-unfolding judged
-judged-disorder z ordered b e = rw e
-
-module _ (z : Sizes) (ordered : Bool) (made b : Tables) (is : Bool) (o : ordered ≡ true) (m : made ≡ b) (t : Tells z made is) where
-  test-is : soundTest z b ≡ is
-  test-is = ap (soundTest z) (sym m) ∙ sym (t .as-test)
-
-  pub judged-unsound : is ≡ false → refused z 1 ≡ judged z ordered b
+-- the number by the tests, and the answer by the number
+module _ (z : Sizes) (formed ordered : Bool) (made b : Tables) {sound : Bool} {n : ℕ} (m : made ≡ b) (t : Tells z made sound) (q : n ≡ refusal formed ordered sound) where
+  judged-is : byNumber z b n ≡ judged z formed ordered b
   unfolding judged
-  judged-unsound e = rw (o, test-is, e)
+  judged-is = ap (byNumber z b) (q ∙ ap (refusal formed ordered) (t .as-test ∙ ap (soundTest z) m))
 
-  pub judged-sound : is ≡ true → accepted made ≡ judged z ordered b
-  unfolding judged
-  judged-sound e = rw (o, test-is, e) (ap accepted m)
+  pub judged-refused : (n ≡ 0 → ⊥) → refused z n ≡ judged z formed ordered b
+  judged-refused h = rw (ne-eqb n 0 h) at judged-is
+
+  pub judged-accepted : n ≡ 0 → _≡_ {A = Answer} (record { number = n; board = made }) (judged z formed ordered b)
+  judged-accepted e = rw (e, m) (rw e at judged-is)

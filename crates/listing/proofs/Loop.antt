@@ -17,7 +17,7 @@ use Rattle.text.specs.Lines.{lines, lineLength}
 use Rattle.text.proofs.Seeking.{lines-first}
 use Rattle.listing.specs.Live.{allLive}
 use Rattle.listing.specs.Content.{Row, Content, rowKey, risingAbove, rowSlot, placed, boardWith, boardOf}
-use Rattle.listing.specs.Read.{Answer, refused, judged, liveFields, heldFields, pageFields, rowIn, pageFits, Rest, withRow, heldLast, restOf, withLive, contentOf, ended, said, answerBy, reading}
+use Rattle.listing.specs.Read.{Answer, refused, refusal, judged, liveFields, heldFields, pageFields, rowIn, pageFits, Rest, withRow, heldLast, restOf, withLive, contentOf, ended, said, answerBy, reading}
 use Rattle.listing.specs.Loop.{finish, readFrom}
 
 -- the lines before `from` are read, and what is left settles the answer a
@@ -47,11 +47,11 @@ and-group false b c d = refl
 module _ (z : Sizes) (live : ℕ) (rising : Bool) (last n : ℕ) (slots : List Slot) where
   -- the last line
   finish-held : (f : Fields) → (f .ok && leb (f .first) (slotCount z - z .pages)) ≡ true
-      → finish z live rising last n slots (heldLast z f) ≡ judged z (rising && eqb n (f .first)) (boardWith z slots live)
+      → finish z live rising last n slots (heldLast z f) ≡ judged z true (rising && eqb n (f .first)) (boardWith z slots live)
   unfolding heldLast risingAbove placed
   finish-held f e = rw e (both rising)
     where
-      both : (b : Bool) → judged z (b && true && eqb (n + 0) (f .first)) (boardWith z slots live) ≡ judged z (b && eqb n (f .first)) (boardWith z slots live)
+      both : (b : Bool) → judged z true (b && true && eqb (n + 0) (f .first)) (boardWith z slots live) ≡ judged z true (b && eqb n (f .first)) (boardWith z slots live)
       both true = let e : n + 0 ≡ n = omega arith in rw e
       both false = refl
 
@@ -63,7 +63,7 @@ module _ (z : Sizes) (live : ℕ) (rising : Bool) (last n : ℕ) (slots : List S
   finish-row r (some t) =
       let k = rowKey z r in
       let e : n + suc (length (t .rows)) ≡ n + 1 + length (t .rows) = omega arith in
-      ap (λ (b : Bool). judged z b (boardWith z (placed z (set slots k (rowSlot r)) (t .rows)) live))
+      ap (λ (b : Bool). judged z true b (boardWith z (placed z (set slots k (rowSlot r)) (t .rows)) live))
       (and-group rising (ltb last k) (risingAbove z k (t .rows)) (eqb (n + suc (length (t .rows))) (t .held))
       ∙ ap (λ (m : ℕ). rising && ltb last k && risingAbove z k (t .rows) && eqb m (t .held)) e)
 
@@ -81,20 +81,19 @@ module _ {z : Sizes} {s : List ℕ} {a : Answer} {live : ℕ} {rising : Bool} {l
         let d : lines (drop (end + 1) s) ≡ [] = ap lines (drop-of-length-le s o) in
         rw (from-line s from end h e, d) at (g .left)
 
+    -- well formed or not, it settles the answer
     pub read-last : length s ≤ end + 1 → {f : Fields} → f ≡ heldFields (take (end - from) (drop from s))
-        → (f .ok && leb (f .first) (slotCount z - z .pages)) ≡ true
-        → judged z (rising && eqb n (f .first)) (boardWith z slots live) ≡ a
-    read-last o {f} q t =
-        let l : finish z live rising last n slots (heldLast z f) ≡ a = ap (λ (x : Fields). finish z live rising last n slots (heldLast z x)) q ∙ last-line o in
-        sym (finish-held z live rising last n slots f t) ∙ l
+        → {formed : Bool} → formed ≡ (f .ok && leb (f .first) (slotCount z - z .pages))
+        → judged z formed (rising && eqb n (f .first)) (boardWith z slots live) ≡ a
+    unfolding heldLast judged refusal
+    read-last o {f} q {formed} t = go formed refl
+      where
+        l : finish z live rising last n slots (heldLast z f) ≡ a
+        l = ap (λ (x : Fields). finish z live rising last n slots (heldLast z x)) q ∙ last-line o
 
-    pub read-last-bad : length s ≤ end + 1 → {f : Fields} → f ≡ heldFields (take (end - from) (drop from s))
-        → (f .ok && leb (f .first) (slotCount z - z .pages)) ≡ false
-        → refused z 17 ≡ a
-    unfolding heldLast
-    read-last-bad o {f} q t =
-        let l : finish z live rising last n slots (heldLast z f) ≡ a = ap (λ (x : Fields). finish z live rising last n slots (heldLast z x)) q ∙ last-line o in
-        rw t at l
+        go : (b : Bool) → formed ≡ b → judged z formed (rising && eqb n (f .first)) (boardWith z slots live) ≡ a
+        go true e = rw e (sym (finish-held z live rising last n slots f (sym t ∙ e)) ∙ l)
+        go false e = rw e (rw (sym t ∙ e) at l)
 
     -- a line before the last
     row-line : end + 1 < length s

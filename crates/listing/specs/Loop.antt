@@ -18,7 +18,7 @@ use Rattle.listing.specs.Read.{Answer, refused, judged, Rest, restOf}
 abbrev pub finish : Sizes → ℕ → Bool → ℕ → ℕ → List Slot → Option Rest → Answer
 finish z live rising last n slots none = refused z 17
 finish z live rising last n slots (some t) =
-    judged z (rising && risingAbove z last (t .rows) && eqb (n + length (t .rows)) (t .held)) (boardWith z (placed z slots (t .rows)) live)
+    judged z true (rising && risingAbove z last (t .rows) && eqb (n + length (t .rows)) (t .held)) (boardWith z (placed z slots (t .rows)) live)
 
 -- the answer to a text whose first line ends before `from`
 unfoldable pub readFrom : Sizes → List ℕ → ℕ → ℕ → Answer

@@ -2,13 +2,14 @@
 -- document's words; that `reading` answers so is the theorem `reads` (listing_laws, Answers).
 use Prim.Native.Nat.{ℕ, _+_, _-_}
 use mathlib.Core.Path.{_≡_}
-use mathlib.Core.Bool.{Bool, not, _&&_, cond}
+use mathlib.Core.Bool.{Bool, true, not, _&&_, cond}
 use mathlib.Core.List.{List, [], _∷_}
 use mathlib.Core.Option.{Option, none, some}
 use lib.ListN.{length, getD}
 use lib.Dec.{ltb, leb, eqb}
 use Rattle.lend.specs.Sizes.{Sizes, slotCount}
 use Rattle.lend.specs.Rights.{allRights}
+use Rattle.lend.specs.Numbers.{_when_, firstOf}
 use Rattle.lend.specs.Tables.{Tables}
 use Rattle.lend.specs.Sound.{Sound}
 use Rattle.lend.specs.SoundTest.{soundTest}
@@ -92,13 +93,20 @@ ended s = eqb (getD s (length s - 1) 0) newline
 unfoldable pub said : Sizes → List ℕ → Option Content
 said z s = cond (ended s) (contentOf z (lines s)) none
 
--- 18, then 1
-unfoldable pub judged : Sizes → Bool → Tables → Answer
-judged z ordered b = cond ordered (cond (soundTest z b) (accepted b) (refused z 1)) (refused z 18)
+-- the numbers, in the order in which they are tried
+unfoldable pub refusal : Bool → Bool → Bool → ℕ
+refusal formed ordered sound = firstOf ((17 when not formed) ∷ (18 when not ordered) ∷ (1 when not sound) ∷ [])
+
+abbrev pub byNumber : Sizes → Tables → ℕ → Answer
+byNumber z b n = cond (eqb n 0) (accepted b) (refused z n)
+
+-- the board that a text makes, by what was found of the text
+unfoldable pub judged : Sizes → Bool → Bool → Tables → Answer
+judged z formed ordered b = byNumber z b (refusal formed ordered (soundTest z b))
 
 abbrev pub answerBy : Sizes → Option Content → Answer
 answerBy z none = refused z 17
-answerBy z (some c) = judged z (risingAbove z 0 (c .rows) && eqb (length (c .rows)) (c .held)) (boardOf z c)
+answerBy z (some c) = judged z true (risingAbove z 0 (c .rows) && eqb (length (c .rows)) (c .held)) (boardOf z c)
 
 unfoldable pub reading : Sizes → List ℕ → Answer
 reading z s = answerBy z (said z s)

@@ -1,8 +1,8 @@
 // The lines of a listing, read from a slice: once for both models.
 ghost use mathlib.Core.Path.{_≡_};
 ghost use mathlib.Core.Bool.{_&&_};
-ghost use lib.Dec.{leb};
-ghost use Rattle.listing.specs.Read.{ended as endedOf, liveFields, heldFields, pageFields};
+ghost use lib.Dec.{leb, ltb};
+ghost use Rattle.listing.specs.Read.{ended as endedOf, liveFields, heldFields, pageFields, refusal as refusalOf};
 use text::Fields;
 use text::read::five_fields;
 use text::read::one_field;
@@ -51,4 +51,22 @@ pub fn one_fits(f: Fields, most: u32) -> bool
     ensures { λ r. ⌜ r ≡ (f .ok && leb (f .first) most) ⌝ }
 {
     f.ok & (f.first <= most)
+}
+
+// Whether pages that rose as far as the last one still rise with the next.
+pub fn rises(rising: bool, last: usize, next: usize) -> bool
+    ensures { λ r. ⌜ r ≡ (rising && ltb last next) ⌝ }
+{
+    rising & (last < next)
+}
+
+// The number of a text by what was found of it; 0 where nothing is against it.
+pub fn refusal(formed: bool, ordered: bool, sound: bool) -> u32
+    ensures { λ r. ⌜ r ≡ refusalOf formed ordered sound ⌝ }
+{
+    lend::pick(
+        !formed,
+        17,
+        lend::pick(!ordered, 18, lend::pick(!sound, 1, 0)),
+    )
 }

@@ -15,7 +15,7 @@ use Rattle.lend.specs.SoundTest.{soundTest}
 use Rattle.lend.specs.Tables.{Tables}
 use Rattle.lend_sound.proofs.SoundTest.{sound-test, test-sound}
 use Rattle.listing.specs.Content.{Content, Says, Ordered, risingAbove, boardOf}
-use Rattle.listing.specs.Read.{Answer, refused, accepted, Reads, said, judged, answerBy, reading}
+use Rattle.listing.specs.Read.{Answer, refused, accepted, Reads, said, refusal, byNumber, judged, answerBy, reading}
 use Rattle.listing.proofs.Said.{Readable, said-of, said-back}
 
 abbrev pub orderTest : Sizes → Content → Bool
@@ -35,12 +35,12 @@ not-both : (b : Bool) → b ≡ false → T b → ⊥
 not-both b e h = rw e at h
 
 -- what a text that says c is answered
-by-content : (z : Sizes) → Readable z → (s : List ℕ) (c : Content) → Says z s c → reading z s ≡ judged z (orderTest z c) (boardOf z c)
+by-content : (z : Sizes) → Readable z → (s : List ℕ) (c : Content) → Says z s c → reading z s ≡ judged z true (orderTest z c) (boardOf z c)
 unfolding reading
 by-content z small s c h = ap (answerBy z) (said-of z small s c h)
 
 pub reads : (z : Sizes) → Readable z → (s : List ℕ) → Reads z s (reading z s)
-unfolding judged reading
+unfolding refusal judged reading
 reads z small s = record {
   malformed = none-said;
   disordered = λ c h never. by-content z small s c h ∙ rw (is-false (orderTest z c) (λ t. never (test-ordered z c t)));
@@ -66,7 +66,7 @@ pub record Taken (z : Sizes) (s : List ℕ) (b : Tables) : Type 0 where
   pub board-is : b ≡ boardOf z content
 
 pub taken : (z : Sizes) (s : List ℕ) (b : Tables) → reading z s ≡ accepted b → Taken z s b
-unfolding reading judged
+unfolding reading refusal judged
 taken z s b e = go (said z s) refl e
   where
     go : (x : Option Content) → said z s ≡ x → answerBy z x ≡ accepted b → Taken z s b
@@ -74,7 +74,7 @@ taken z s b e = go (said z s) refl e
     go (some c) q e = order (orderTest z c) refl (soundTest z (boardOf z c)) refl e
       where
         order : (t : Bool) → orderTest z c ≡ t → (u : Bool) → soundTest z (boardOf z c) ≡ u
-            → cond t (cond u (accepted (boardOf z c)) (refused z 1)) (refused z 18) ≡ accepted b → Taken z s b
+            → byNumber z (boardOf z c) (refusal true t u) ≡ accepted b → Taken z s b
         order false p u r e = let n : _≡_ {A = ℕ} 18 0 = ap (λ (a : Answer). a .number) e in absurd (omega arith)
         order true p false r e = let n : _≡_ {A = ℕ} 1 0 = ap (λ (a : Answer). a .number) e in absurd (omega arith)
         order true p true r e =

@@ -9,7 +9,7 @@ use lib.ListN.{length, length-append, take, length-take}
 use native.Mathlib.Nat.{min-le-left}
 use lib.Dec.{eqb}
 use Rattle.lend.specs.Sizes.{Sizes, slotCount, entry, premium}
-use Rattle.lend.specs.Tables.{State, alone}
+use Rattle.lend.specs.Tables.{Tables, State, alone}
 use Rattle.lend.specs.Start.{startBoard}
 use Rattle.lend.specs.Calls.{Reply}
 use Rattle.text.specs.declared.Request.{Request}
@@ -17,13 +17,15 @@ use Rattle.text.specs.declared.Request.the-variants.{Create, Delete, Unmap, Flu
 use Rattle.text.specs.Ascii.{newline}
 use Rattle.text.specs.Lines.{lines, inFront}
 use Rattle.text.specs.Request.{requestOf, isComment, spell}
-use Rattle.text.specs.Write.{Wrote, lastPosition, answerLine, translationLine, malformedLine}
+use Rattle.text.specs.Write.{answerLine, translationLine, malformedLine, refusedLine}
 use Rattle.text.specs.Write as write
 use Rattle.text.proofs.Digits.{decimal-longest, decimal-shorter}
-use Rattle.text.proofs.Writing.{Exactly, wrote-exactly}
 use Rattle.text_laws.proofs.Requests.{Spelt, request-back, spell-shortest}
+use Rattle.listing.specs.Read.{Answer, reading}
 use Rattle.listing.proofs.Length.{listing-length}
 use Rattle.script.specs.Bound.{outputBound}
+use Rattle.script.specs.From.{outputBy, fromOutput}
+use Rattle.script.specs.Run.{enough}
 use Rattle.script.specs.Script.{judged, saidOf, turn, silent, spoken, saidLine, answers, outputOf, inputLimit, scriptOutput}
 
 -- ── each line that is written ────────────────────────────────────────────
@@ -106,17 +108,49 @@ answers-length z n st (l ∷ ls) h =
     rw length-append
     (omega (arith, turn-length z n st l (omega arith), answers-length z (n + 1) (turn z st l .state) ls (omega arith)))
 
-pub output-length : (z : Sizes) (s : List ℕ) → length s ≤ inputLimit → length (outputOf z s) ≤ outputBound z (length s)
+pub output-length : (z : Sizes) (b : Tables) (s : List ℕ) → length s ≤ inputLimit → length (outputOf z b s) ≤ outputBound z (length s)
 unfolding outputOf outputBound
-output-length z s h =
-    omega (arith, answers-length z 1 (alone (startBoard z)) (lines s) (omega (arith, lines-few s)), lines-weight s)
+output-length z b s h = omega (arith, answers-length z 1 (alone b) (lines s) (omega (arith, lines-few s)), lines-weight s)
 
 -- ── the bound of every input ─────────────────────────────────────────────
-pub script-length : (z : Sizes) (s : List ℕ) → length (scriptOutput z s) ≤ outputBound z inputLimit
-unfolding scriptOutput outputBound
-script-length z s =
-    let l : length (take inputLimit s) ≤ inputLimit = rw length-take (min-le-left inputLimit (length s)) in
-    omega (arith, output-length z (take inputLimit s) l)
+-- no more than the limit is read
+pub part-short : (s : List ℕ) → length (take inputLimit s) ≤ inputLimit
+part-short s = rw length-take (min-le-left inputLimit (length s))
+
+pub first-length : (z : Sizes) (b : Tables) (s : List ℕ) → length (outputOf z b (take inputLimit s)) ≤ enough z s
+first-length z b s = output-length z b (take inputLimit s) (part-short s)
+
+pub script-length : (z : Sizes) (s : List ℕ) → length (scriptOutput z s) ≤ enough z s
+unfolding scriptOutput
+script-length z s = first-length z (startBoard z) s
+
+refused-length : (n : ℕ) → length (refusedLine n) ≤ 32
+unfolding refusedLine write.entry
+refused-length n = simp length-append (omega (arith, decimal-longest n))
+
+least : (z : Sizes) {m : ℕ} (n : ℕ) → m ≤ 32 → m ≤ outputBound z n
+unfolding outputBound
+least z n h = omega arith
+
+pub by-length : (z : Sizes) (a : Answer) (s : List ℕ) → length (outputBy z a s) ≤ enough z s
+unfolding outputBy
+by-length z a s = go (eqb (a .number) 0)
+  where
+    go : (t : Bool) → length (cond t (outputOf z (a .board) (take inputLimit s)) (refusedLine (a .number))) ≤ enough z s
+    go true = first-length z (a .board) s
+    go false = least z (length (take inputLimit s)) (refused-length (a .number))
+
+pub from-length : (z : Sizes) (listing s : List ℕ) → length (fromOutput z listing s) ≤ enough z s
+unfolding fromOutput
+from-length z listing s = by-length z (reading z (take inputLimit listing)) s
+
+pub enough-most : (z : Sizes) (s : List ℕ) → enough z s ≤ outputBound z inputLimit
+unfolding outputBound
+enough-most z s = omega (arith, part-short s)
+
+-- so a buffer of that length is long enough
+pub long-enough : (z : Sizes) (s : List ℕ) {n : ℕ} → outputBound z inputLimit ≤ n → enough z s ≤ n
+long-enough z s h = omega (arith, enough-most z s)
 
 pub entry-bound : outputBound entry inputLimit ≡ 1394901
 unfolding outputBound
@@ -125,8 +159,3 @@ entry-bound = refl
 pub premium-bound : outputBound premium inputLimit ≡ 1455989
 unfolding outputBound
 premium-bound = refl
-
--- a buffer of that length holds the whole output, and then what it held
-pub script-exactly : (z : Sizes) (s : List ℕ) {out out′ : List ℕ} {r : ℕ} → outputBound z inputLimit ≤ length out → length out ≤ lastPosition
-    → Wrote out 0 (scriptOutput z s) out′ r → Exactly out (scriptOutput z s) out′ r
-script-exactly z s h l w = wrote-exactly w (omega (arith, script-length z s)) (omega (arith, script-length z s))

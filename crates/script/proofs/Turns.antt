@@ -1,11 +1,9 @@
 -- What one line does: a comment, and any other.
-use Prim.Native.Nat.{ℕ, _≤_}
+use Prim.Native.Nat.{ℕ}
 use mathlib.Core.Path.{_≡_, refl, sym, ap, _∙_}
 use mathlib.Core.Bool.{Bool, true, false}
 use mathlib.Core.List.{List}
 use mathlib.Core.Option.{some}
-use lib.ListN.{length, take}
-use lib.Seq.{take-all}
 use Rattle.lend.specs.Sizes.{Sizes}
 use Rattle.lend.specs.Tables.{State}
 use Rattle.lend.specs.Calls.{Call, Outcome, step}
@@ -13,7 +11,7 @@ use Rattle.text.specs.declared.Request.{Request}
 use Rattle.text.specs.declared.Request.the-variants.{Malformed}
 use Rattle.text.specs.Request.{requestOf, isComment, callOf}
 use Rattle.script.specs.declared.Said.the-variants.{Garbled}
-use Rattle.script.specs.Script.{Turn, silent, spoken, byCall, judged, turn, inputLimit, outputOf, scriptOutput}
+use Rattle.script.specs.Script.{Turn, silent, spoken, byCall, judged, turn}
 
 module _ (z : Sizes) (st : State) where
   -- a comment, told by a test
@@ -36,13 +34,3 @@ module _ (z : Sizes) (st : State) where
   pub not-called : record { said = Garbled; state = st } ≡ spoken Malformed (judged z st Malformed)
   unfolding judged
   not-called = refl
-
--- an input within the limit is read whole
-pub output-whole : (z : Sizes) (input : List ℕ) → length input ≤ inputLimit → scriptOutput z input ≡ outputOf z input
-unfolding scriptOutput
-output-whole z input h = rw (take-all inputLimit input h)
-
--- and a longer one as its first part
-pub output-part : (z : Sizes) (input : List ℕ) → scriptOutput z input ≡ outputOf z (take inputLimit input)
-unfolding scriptOutput
-output-part z input = refl

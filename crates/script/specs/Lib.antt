@@ -1,3 +1,4 @@
 pub mod Script
+pub mod From
 pub mod Bound
 pub mod Run

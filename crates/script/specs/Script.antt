@@ -1,11 +1,12 @@
--- The script program as a definition, from the bytes of the input to the bytes of the output (01, 'The script program'; the end is the listing of the board, crate listing).
+-- The script program as a definition, from the bytes of the input to the bytes of the output (01, 'The script program'), which ends
+-- with the listing of the board (crate listing).
 use Prim.Native.Nat.{ℕ, _+_}
 use mathlib.Core.Bool.{cond}
 use mathlib.Core.List.{List, [], _∷_, _++_}
 use mathlib.Core.Option.{Option, none, some}
 use lib.ListN.{take}
 use Rattle.lend.specs.Sizes.{Sizes}
-use Rattle.lend.specs.Tables.{State, alone}
+use Rattle.lend.specs.Tables.{Tables, State, alone}
 use Rattle.lend.specs.Start.{startBoard}
 use Rattle.lend.specs.Calls.{Call, Reply, Outcome, step, refuse}
 use Rattle.text.specs.declared.Request.{Request}
@@ -65,13 +66,13 @@ unfoldable pub answers : Sizes → ℕ → State → List (List ℕ) → List �
 answers z n st [] = listingOf z (st .board)
 answers z n st (line ∷ rest) = saidLine n (turn z st line .said) ++ answers z (n + 1) (turn z st line .state) rest
 
--- an input that is read whole
-unfoldable pub outputOf : Sizes → List ℕ → List ℕ
-outputOf z input = answers z 1 (alone (startBoard z)) (lines input)
+-- an input that is read whole, from a board on
+unfoldable pub outputOf : Sizes → Tables → List ℕ → List ℕ
+outputOf z b input = answers z 1 (alone b) (lines input)
 
 -- only so many bytes are read, and are the whole input
 abbrev pub inputLimit : ℕ
 inputLimit = 65536
 
 unfoldable pub scriptOutput : Sizes → List ℕ → List ℕ
-scriptOutput z input = outputOf z (take inputLimit input)
+scriptOutput z input = outputOf z (startBoard z) (take inputLimit input)

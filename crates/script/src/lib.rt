@@ -7,7 +7,8 @@ ghost use Rattle.script.specs.Script.{saidLine};
 // Only so many bytes of an input are read, and are the whole input.
 pub const INPUT_LIMIT: usize = 65536;
 
-// The most bytes that are printed for a byte of the input, for a page outside space 0, and by the first and last line of the listing (specs/Bound.antt).
+// The most bytes that are printed for a byte of the input, for a page outside space 0, and for the listing's first and last line
+// (specs/Bound.antt).
 pub const FOR_A_BYTE: usize = 21;
 
 pub const FOR_A_PAGE: usize = 83;

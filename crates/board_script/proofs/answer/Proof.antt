@@ -3,7 +3,9 @@ use Rattle.board_script.proofs as own
 use mathlib.Core.Path.{sym}
 use Prim.Native.Nat.{ℕ}
 use lib.Seq.{length-take-le}
-use Rattle.script.proofs.Runs.{ran-fits, ran-output}
+use Rattle.script.proofs.Bound.{long-enough, script-length}
+use Rattle.script.proofs.Runs.{told-fits, told-output}
+use Rattle.entry.specs.Sizes.{sizes}
 use borrow.Author.Needs.{needs}
 use own.answer.Statement.{statement}
 use own.answer.Tie as tie
@@ -16,8 +18,10 @@ same-length c = search needs
 
 returns : tie.Need-returns
 returns c =
-    let fits = ran-fits (c .before .before .run .ensures) .0 in
-    ((fits, sym (length-take-le {A = ℕ} _ _ fits)), ran-output (c .before .before .run .ensures) (search needs))
+    let input = c .before .before .before .before .before .before .args .input .now in
+    let ran = c .before .before .run .ensures in
+    let fits = told-fits ran (script-length sizes _) .0 in
+    ((fits, sym (length-take-le {A = ℕ} _ _ fits)), told-output ran (long-enough sizes input (search needs)))
 
 pub answer-spec : {M : Type 1} → statement M
 answer-spec = tie.close (tie.spec run-requires same-length returns)

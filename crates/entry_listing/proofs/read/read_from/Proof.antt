@@ -1,23 +1,24 @@
 -- `read_from` meets its contract. The invariant: what is left of the lines settles the answer.
 use Rattle.entry_listing.proofs as own
-use borrow.Author.Tests.{not-true, not-false}
-use Rattle.lend_basics.proofs.Bools.{true-is}
-use Prim.Native.Nat.{ℕ, _+_, _-_, _≤_}
-use mathlib.Core.Path.{_≡_, refl, sym, ap, _∙_}
+use Prim.Native.Nat.{_-_, _≤_}
+use mathlib.Core.Path.{sym, ap, _∙_}
 use native.Mathlib.Omega.{arith}
 use lib.ListN.{length}
+use borrow.Author.Tests.{not-true, not-false}
+use Rattle.lend_basics.proofs.Bools.{true-is}
 use Rattle.lend.specs.Tables.{Tables}
 use Rattle.text.proofs.Seeking.{line-within}
 use Rattle.listing.specs.Loop.{readFrom}
 use Rattle.listing.proofs.Said.{row-fits, key-below}
-use Rattle.listing.proofs.Loop.{Reading, read-start, read-none, read-last, read-last-bad, read-turn, read-bad}
+use Rattle.listing.proofs.Loop.{Reading, read-start, read-none, read-last, read-turn, read-bad}
 use Rattle.entry.specs.Sizes.{sizes}
 use borrow.Author.Needs.{needs}
 use own.read.read_from.Statement.{statement}
 use own.read.read_from.Tie as tie
 
 abbrev Inv-loop : tie.InvT-loop
-Inv-loop text live at slots₀ rising₀ last₀ count₀ from₀ slots rising last count from = Reading sizes text (readFrom sizes text live at) live rising last count slots from
+Inv-loop text live at slots₀ rising₀ last₀ count₀ from₀ slots rising last count from =
+    Reading sizes text (readFrom sizes text live at) live rising last count slots from
 
 abbrev μ-loop : tie.MeasureT-loop
 μ-loop text live at slots₀ rising₀ last₀ count₀ from₀ slots rising last count from = length text - from
@@ -32,7 +33,10 @@ line-end-requires : tie.Need-line-end-requires Inv-loop μ-loop
 line-end-requires c κs = search needs
 
 add-if1 : tie.Need-add-if1 Inv-loop μ-loop
-add-if1 c = let h : c .line-end .result ≤ length (c .before .before .before .before .before .before .args .text .now) = line-within _ _ _ (c .line-end .ensures) (search needs) in search needs
+add-if1 c =
+    let line = c in
+    let h : line .line-end .result ≤ length (line .before .before .before .before .before .before .args .text .now) = line-within _ _ _ (line .line-end .ensures) (search needs) in
+    search needs
 
 sub-held-fields : tie.Need-sub-held-fields Inv-loop μ-loop
 sub-held-fields c = search needs
@@ -41,7 +45,10 @@ part-held-fields-start : tie.Need-part-held-fields-start Inv-loop μ-loop
 part-held-fields-start c = search needs
 
 part-held-fields-end : tie.Need-part-held-fields-end Inv-loop μ-loop
-part-held-fields-end c = let h : c .before .line-end .result ≤ length (c .before .before .before .before .before .before .before .args .text .now) = line-within _ _ _ (c .before .line-end .ensures) (search needs) in search needs
+part-held-fields-end c =
+    let line = c .before in
+    let h : line .line-end .result ≤ length (line .before .before .before .before .before .before .args .text .now) = line-within _ _ _ (line .line-end .ensures) (search needs) in
+    search needs
 
 held-fields-requires : tie.Need-held-fields-requires Inv-loop μ-loop
 held-fields-requires c κs = search needs
@@ -55,24 +62,19 @@ cast-one-fits c = search needs
 one-fits-requires : tie.Need-one-fits-requires Inv-loop μ-loop
 one-fits-requires c κs = search needs
 
-refused-requires : tie.Need-refused-requires Inv-loop μ-loop
-refused-requires c κs = search needs
-
-returns : tie.Need-returns Inv-loop μ-loop
-returns c =
-    c .refused .ensures
-    ∙ read-last-bad (c .before .before .before .before .before .before .before .before .loop .inv) (search needs) (c .before .before .before .before .before .before .line-end .ensures) (search needs) (c .before .before .before .held-fields .ensures) (sym (c .before .before .one-fits .ensures) ∙ not-true _ (c .before .if2 .taken))
-
 cast-judged : tie.Need-cast-judged Inv-loop μ-loop
 cast-judged c = search needs
 
 judged-requires : tie.Need-judged-requires Inv-loop μ-loop
 judged-requires c κs = search needs
 
-returns-2 : tie.Need-returns-2 Inv-loop μ-loop
-returns-2 c =
+returns : tie.Need-returns Inv-loop μ-loop
+returns c =
+    let line = c .before .before .before .before .before .before in
     c .judged .ensures
-    ∙ read-last (c .before .before .before .before .before .before .before .before .before .loop .inv) (search needs) (c .before .before .before .before .before .before .before .line-end .ensures) (search needs) (c .before .before .before .before .held-fields .ensures) (sym (c .before .before .before .one-fits .ensures) ∙ not-false _ (c .before .before .if2 .left))
+    ∙ read-last (line .before .before .loop .inv) (search needs) (line .line-end .ensures) (search needs)
+    (c .before .before .before .held-fields .ensures)
+    (c .before .before .one-fits .ensures)
 
 sub-page-fields : tie.Need-sub-page-fields Inv-loop μ-loop
 sub-page-fields c = search needs
@@ -81,7 +83,10 @@ part-page-fields-start : tie.Need-part-page-fields-start Inv-loop μ-loop
 part-page-fields-start c = search needs
 
 part-page-fields-end : tie.Need-part-page-fields-end Inv-loop μ-loop
-part-page-fields-end c = let h : c .before .line-end .result ≤ length (c .before .before .before .before .before .before .before .args .text .now) = line-within _ _ _ (c .before .line-end .ensures) (search needs) in search needs
+part-page-fields-end c =
+    let line = c .before in
+    let h : line .line-end .result ≤ length (line .before .before .before .before .before .before .args .text .now) = line-within _ _ _ (line .line-end .ensures) (search needs) in
+    search needs
 
 page-fields-requires : tie.Need-page-fields-requires Inv-loop μ-loop
 page-fields-requires c κs = search needs
@@ -89,48 +94,62 @@ page-fields-requires c κs = search needs
 page-fits-requires : tie.Need-page-fits-requires Inv-loop μ-loop
 page-fits-requires c κs = search needs
 
-refused-requires-2 : tie.Need-refused-requires-2 Inv-loop μ-loop
-refused-requires-2 c κs = search needs
+refused-requires : tie.Need-refused-requires Inv-loop μ-loop
+refused-requires c κs = search needs
 
-returns-3 : tie.Need-returns-3 Inv-loop μ-loop
-returns-3 c =
-    c .refused2 .ensures
-    ∙ read-bad (c .before .before .before .before .before .before .before .before .loop .inv) (search needs) (c .before .before .before .before .before .before .line-end .ensures) (search needs) (c .before .before .before .page-fields .ensures) (sym (c .before .before .page-fits .ensures) ∙ not-true _ (c .before .if3 .taken))
+returns-2 : tie.Need-returns-2 Inv-loop μ-loop
+returns-2 c =
+    let line = c .before .before .before .before .before .before in
+    c .refused .ensures
+    ∙ read-bad (line .before .before .loop .inv) (search needs) (line .line-end .ensures) (search needs)
+    (c .before .before .before .page-fields .ensures)
+    (sym (c .before .before .page-fits .ensures) ∙ not-true _ (c .before .if2 .taken))
 
 page-of-requires : tie.Need-page-of-requires Inv-loop μ-loop
-page-of-requires c κs = true-is _ (sym (c .before .page-fits .ensures) ∙ not-false _ (c .if3 .left))
+page-of-requires c κs = true-is _ (sym (c .before .page-fits .ensures) ∙ not-false _ (c .if2 .left))
 
 slot-of-requires : tie.Need-slot-of-requires Inv-loop μ-loop
-slot-of-requires c κs = true-is _ (sym (c .before .before .page-fits .ensures) ∙ not-false _ (c .before .if3 .left))
+slot-of-requires c κs = true-is _ (sym (c .before .before .page-fits .ensures) ∙ not-false _ (c .before .if2 .left))
 
 mul-slots : tie.Need-mul-slots Inv-loop μ-loop
 mul-slots c = search needs
 
 array-set-from-slots : tie.Need-array-set-from-slots Inv-loop μ-loop
 array-set-from-slots c =
-    let fits = row-fits sizes _ (true-is _ (sym (c .before .before .before .page-fits .ensures) ∙ not-false _ (c .before .before .if3 .left))) in
-    let h = key-below sizes _ fits in
+    let fits = true-is _ (sym (c .before .before .before .page-fits .ensures) ∙ not-false _ (c .before .before .if2 .left)) in
+    let h = key-below sizes _ (row-fits sizes _ fits) in
     omega (arith, h, c .before .page-of .ensures)
 
+rises-requires : tie.Need-rises-requires Inv-loop μ-loop
+rises-requires c κs = search needs
+
 add-count : tie.Need-add-count Inv-loop μ-loop
-add-count c = let few = c .before .before .before .before .before .before .before .before .before .loop .inv .few in search needs
+add-count c = let few = c .before .before .before .before .before .before .before .before .before .before .loop .inv .few in search needs
 
 add-from : tie.Need-add-from Inv-loop μ-loop
-add-from c = let h : c .before .before .before .before .before .before .before .line-end .result ≤ length (c .before .before .before .before .before .before .before .before .before .before .before .before .before .args .text .now) = line-within _ _ _ (c .before .before .before .before .before .before .before .line-end .ensures) (search needs) in search needs
+add-from c =
+    let line = c .before .before .before .before .before .before .before .before in
+    let h : line .line-end .result ≤ length (line .before .before .before .before .before .before .args .text .now) = line-within _ _ _ (line .line-end .ensures) (search needs) in
+    search needs
 
 loop-less : tie.Need-loop-less Inv-loop μ-loop
 loop-less c = search needs
 
 loop-again : tie.Need-loop-again Inv-loop μ-loop
 loop-again c =
-    read-turn (c .before .before .before .before .before .before .before .before .before .loop .inv) (search needs) (c .before .before .before .before .before .before .before .line-end .ensures) (search needs) (c .before .before .before .before .page-fields .ensures) (sym (c .before .before .before .page-fits .ensures) ∙ not-false _ (c .before .before .if3 .left))
-    (c .before .page-of .ensures) refl (c .slot-of .ensures)
+    let line = c .before .before .before .before .before .before .before .before in
+    read-turn (line .before .before .loop .inv) (search needs) (line .line-end .ensures) (search needs)
+    (c .before .before .before .before .before .page-fields .ensures)
+    (sym (c .before .before .before .before .page-fits .ensures) ∙ not-false _ (c .before .before .before .if2 .left))
+    (c .before .before .page-of .ensures)
+    (c .rises .ensures)
+    (c .before .slot-of .ensures)
 
-refused-requires-3 : tie.Need-refused-requires-3 Inv-loop μ-loop
-refused-requires-3 c κs = search needs
+refused-requires-2 : tie.Need-refused-requires-2 Inv-loop μ-loop
+refused-requires-2 c κs = search needs
 
-returns-4 : tie.Need-returns-4 Inv-loop μ-loop
-returns-4 c = c .refused3 .ensures ∙ read-none (c .before .before .loop .inv) (search needs)
+returns-3 : tie.Need-returns-3 Inv-loop μ-loop
+returns-3 c = c .refused2 .ensures ∙ read-none (c .before .before .loop .inv) (search needs)
 
 pub read-from-spec : {M : Type 1} → statement M
 read-from-spec =
@@ -149,25 +168,24 @@ read-from-spec =
     sub-one-fits
     cast-one-fits
     one-fits-requires
-    refused-requires
-    returns
     cast-judged
     judged-requires
-    returns-2
+    returns
     sub-page-fields
     part-page-fields-start
     part-page-fields-end
     page-fields-requires
     page-fits-requires
-    refused-requires-2
-    returns-3
+    refused-requires
+    returns-2
     page-of-requires
     slot-of-requires
     mul-slots
     array-set-from-slots
+    rises-requires
     add-count
     add-from
     loop-less
     loop-again
-    refused-requires-3
-    returns-4)
+    refused-requires-2
+    returns-3)

@@ -14,16 +14,14 @@ use own.lines.run_lines.Statement.{statement}
 use own.lines.run_lines.Tie as tie
 
 abbrev Inv-loop : tie.InvT-loop
-Inv-loop input out₀ board₀ line₀ from₀ at₀ out board line from at = Running sizes input out₀ out (alone (tables board)) line from at
+Inv-loop input out₀ board₀ line₀ from₀ at₀ out board line from at =
+    Running sizes (tables board₀) input out₀ out (alone (tables board)) line from at
 
 abbrev μ-loop : tie.MeasureT-loop
 μ-loop input out₀ board₀ line₀ from₀ at₀ out board line from at = length input - from
 
-start-requires : tie.Need-start-requires Inv-loop μ-loop
-start-requires c κs = search needs
-
 loop-holds : tie.Need-loop-holds Inv-loop μ-loop
-loop-holds c = run-start sizes _ _ (ap alone (c .start .ensures))
+loop-holds c = run-start sizes _ _ _
 
 line-end-requires : tie.Need-line-end-requires Inv-loop μ-loop
 line-end-requires c κs = search needs
@@ -35,7 +33,10 @@ part-line-turn-start : tie.Need-part-line-turn-start Inv-loop μ-loop
 part-line-turn-start c = search needs
 
 part-line-turn-end : tie.Need-part-line-turn-end Inv-loop μ-loop
-part-line-turn-end c = let h : c .line-end .result ≤ length (c .before .before .before .before .before .before .args .input .now) = line-within _ _ _ (c .line-end .ensures) (search needs) in search needs
+part-line-turn-end c =
+    let line = c in
+    let h : line .line-end .result ≤ length (line .before .before .before .before .before .args .input .now) = line-within _ _ _ (line .line-end .ensures) (search needs) in
+    search needs
 
 line-turn-requires : tie.Need-line-turn-requires Inv-loop μ-loop
 line-turn-requires c κs = search needs
@@ -47,19 +48,26 @@ add-line : tie.Need-add-line Inv-loop μ-loop
 add-line c = let few = c .before .before .before .before .before .before .before .before .before .loop .inv .count in search needs
 
 add-from : tie.Need-add-from Inv-loop μ-loop
-add-from c = let h : c .before .before .before .before .before .before .before .line-end .result ≤ length (c .before .before .before .before .before .before .before .before .before .before .before .before .before .args .input .now) = line-within _ _ _ (c .before .before .before .before .before .before .before .line-end .ensures) (search needs) in search needs
+add-from c =
+    let line = c .before .before .before .before .before .before .before in
+    let h : line .line-end .result ≤ length (line .before .before .before .before .before .args .input .now) = line-within _ _ _ (line .line-end .ensures) (search needs) in
+    search needs
 
 loop-less : tie.Need-loop-less Inv-loop μ-loop
 loop-less c = search needs
 
 loop-again : tie.Need-loop-again Inv-loop μ-loop
-loop-again c = run-turn (c .before .before .before .before .before .before .before .before .before .loop .inv) (search needs) (c .before .before .before .before .before .before .before .line-end .ensures) (c .before .before .before .before .before .line-turn .ensures) (c .before .before .say .ensures)
+loop-again c =
+    let line = c .before .before .before .before .before .before .before in
+    run-turn (line .before .before .loop .inv) (search needs) (line .line-end .ensures) (c .before .before .before .before .before .line-turn .ensures)
+    (c .before .before .say .ensures)
 
 put-listing-requires : tie.Need-put-listing-requires Inv-loop μ-loop
 put-listing-requires c κs = search needs
 
 same-length : tie.Need-same-length Inv-loop μ-loop
-same-length c = wrote-length (run-end (c .before .before .before .before .before .loop .inv) (search needs) (c .before .before .put-listing .ensures))
+same-length c =
+    wrote-length (run-end (c .before .before .before .before .before .loop .inv) (search needs) (c .before .before .put-listing .ensures))
 
 returns : tie.Need-returns Inv-loop μ-loop
 returns c = run-end (c .before .before .before .before .before .loop .inv) (search needs) (c .before .before .put-listing .ensures)
@@ -70,7 +78,6 @@ run-lines-spec =
     (tie.spec
     Inv-loop
     μ-loop
-    start-requires
     loop-holds
     line-end-requires
     sub-line-turn
