@@ -20,14 +20,17 @@ VIEWS = {
     'rangeMeant': 'rangeBack-meant (specs/Range.antt of the board)',
     'translated': 'translatedOf-translated (specs/Answers.antt)',
     'seen': 'seenOf-seen (specs/Answers.antt)',
+    'answer': 'readOf-answer (specs/Answer.antt of the listing)',
 }
-# views of the result and of the memory beside it
+# views of the result and of the memory, or the buffer, beside it
 WITH_MEMORY = {
+    'filled': 'writtenOf-filled (specs/Answer.antt of the listing), and every byte of the buffer',
     'loaded': 'loadedOf-loaded (specs/Answers.antt)',
     'stored': 'storedOf-stored, memory too (specs/Answers.antt)',
 }
 # views of the number and of every byte that was lent
 LEFT = 'all that comes back: the number, and every byte of image, memory and out'
+LISTED = 'all that comes back: the number, and every byte of text and out'
 # structs with one field, which is then all of them
 FIELDS = {
     'frame': 'the only field of a Lookup',
@@ -37,6 +40,7 @@ RECORDS = {
     'Tells': 'as-test: the result equals soundTest',
     'Wrote': 'the next position, and every byte of the lent buffer',
     'Ran': 'the length told, and every byte of the lent buffer',
+    'RanFrom': 'the length told, and every byte of the lent buffer',
 }
 
 errors = []
@@ -63,12 +67,15 @@ def determined(clause):
     m = re.fullmatch(rf'(?:(\w+) )?{result} ≡ (.*)', fact)
     if m and (m.group(1) or '') in VIEWS:
         return VIEWS[m.group(1) or ''], m.group(2)
-    m = re.fullmatch(rf'(\w+) {result} \(now \(memory \.(?:entry|exit)\)\) ≡ (.*)', fact)
+    m = re.fullmatch(rf'(\w+) {result} \(now \((?:memory|out) \.(?:entry|exit)\)\) ≡ (.*)', fact)
     if m and m.group(1) in WITH_MEMORY:
         return WITH_MEMORY[m.group(1)], m.group(2)
     m = re.fullmatch(rf'left {result} \(now \(image \.exit\)\) (?:\[\]|\(now \(memory \.\w+\)\)) \(now \(out \.exit\)\) ≡ (.*)', fact)
     if m:
         return LEFT, m.group(1)
+    m = re.fullmatch(rf'listed {result} \(now \(text \.exit\)\) \(now \(out \.exit\)\) ≡ (.*)', fact)
+    if m:
+        return LISTED, m.group(1)
     m = re.fullmatch(r'now \(image \.exit\) ≡ (.*)', fact)
     if m and result == '_':
         return 'every byte of the image', m.group(1)

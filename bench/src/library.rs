@@ -24,7 +24,7 @@ macro_rules! over_image {
     };
 }
 
-/// A function that takes an image, memory and numbers.
+/// A function that takes an image, memory and numbers; or, in the place of memory, the text of a listing.
 macro_rules! over_memory {
     ($prefix:literal, $name:ident($($number:ident: $type:ty),*)) => {
         pub fn $name(image: &mut [u8], memory: &mut [u8], numbers: &Numbers, out: &mut Out) -> u32 {
@@ -62,6 +62,8 @@ macro_rules! library {
             use super::{Numbers, Out};
             over_image!($prefix, start());
             test_of_soundness!($prefix, sound);
+            over_memory!($prefix, write_listing());
+            over_memory!($prefix, read_listing());
             over_image!($prefix, create(space));
             over_image!($prefix, delete(space));
             over_image!($prefix, unmap(space, page, rights));

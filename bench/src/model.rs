@@ -3,6 +3,8 @@ mod agree;
 mod boards;
 mod calls;
 mod image_plain;
+mod listing;
+mod listings;
 mod own;
 mod plain;
 mod ranges;

@@ -1,5 +1,5 @@
 //! Plain Rust, second way: the board stays in the byte image of include/lend.h and is read and changed there.
-use super::plain::{Link, Place, Slot, Tables};
+use super::plain::{self, Link, Place, Slot, Tables};
 use super::{PLACES, SLOTS, SPACES};
 use crate::library::{Numbers, Out};
 
@@ -19,7 +19,7 @@ impl<'a> Image<'a> {
     }
 
     /// The board that the bytes are the image of.
-    fn of(bytes: &'a mut [u8]) -> Option<Image<'a>> {
+    pub fn of(bytes: &'a mut [u8]) -> Option<Image<'a>> {
         Image::over(bytes).filter(Image::is_a_boards)
     }
 
@@ -72,6 +72,13 @@ impl Tables for Image<'_> {
     fn set_next(&mut self, next: usize) {
         self.0[NEXT] = next as u8;
     }
+}
+
+/// The start board, over any bytes of an image's length.
+pub fn start_over(bytes: &mut [u8]) -> Option<Image<'_>> {
+    let mut board = Image::over(bytes)?;
+    plain::start(&mut board);
+    Some(board)
 }
 
 /// Copies a board's tables from one store to another.

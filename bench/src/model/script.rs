@@ -1,9 +1,9 @@
 //! The script program in plain Rust, and a session for it.
 use super::boards::request;
 use super::calls::call;
+use super::listing::listing;
 use super::own::Board;
-use super::plain::{Link, Tables};
-use super::{PAGES, SLOTS, SPACES};
+use super::SPACES;
 use crate::library::{Numbers, Out};
 use crate::random::Random;
 use std::fmt::Write as _;
@@ -73,16 +73,7 @@ pub fn run(input: &[u8]) -> String {
             }
         }
     }
-    let mut held = 0;
-    for page in PAGES..SLOTS {
-        let slot = board.slot(page);
-        if let Link::Page(parent, at) = slot.link {
-            let (space, page, rights) = (page / PAGES, page % PAGES, slot.rights);
-            writeln!(output, "space={space} page={page} parent={parent} at={at} rights={rights}").expect("a string takes all");
-            held += 1;
-        }
-    }
-    writeln!(output, "held={held}").expect("a string takes all");
+    output += std::str::from_utf8(&listing(&board)).expect("a listing is text");
     output
 }
 

@@ -2,7 +2,7 @@
 use super::boards::{Kind, Ring, Wanted};
 use super::calls::{call, CALLS};
 use super::time::{times, Times};
-use super::{agree, script, space, LONG_LINES, NAME, PAGES};
+use super::{agree, listings, script, space, LONG_LINES, NAME, PAGES};
 use crate::library::Out;
 use crate::process::{lines_per_second, RUN_SCRIPT};
 use crate::random::Random;
@@ -163,5 +163,6 @@ pub fn print(seconds: f64, program: Option<&str>) -> Columns {
     let columns = print_times(&rings, seconds);
     print_space(&mut random);
     print_script(&mut random, program, seconds);
+    listings::print(&mut random, seconds);
     columns
 }

@@ -9,11 +9,12 @@ use model::sound::sound;
 use text::write::put_held;
 use text::write::put_live;
 ghost use mathlib.Core.Path.{_≡_};
-ghost use Rattle.text.specs.Write as text;
+ghost use Rattle.text.specs.Write.{Wrote};
 ghost use Rattle.listing.specs.Listing.{listingOf};
-ghost use Rattle.listing.specs.Write.{Wrote};
+ghost use Rattle.listing.specs.Write.{writing};
 ghost use Rattle.entry.specs.Sizes.{sizes};
 ghost use Rattle.entry.specs.Board.{tables};
+ghost use Rattle.entry_listing.specs.Answer.{filled};
 
 // What the writer answers: the number, and how many bytes of listing stand at the buffer's start.
 pub struct Written {
@@ -23,7 +24,7 @@ pub struct Written {
 
 // Writes which spaces are live, the line of each held page outside space 0, by rising space, then page, and then how many they are.
 pub fn put_listing(out: &mut [u8], at: usize, b: Board) -> usize
-    ensures { λ r. ⌜ text.Wrote (now (out .entry)) at (listingOf sizes (tables b)) (now (out .exit)) r ⌝ }
+    ensures { λ r. ⌜ Wrote (now (out .entry)) at (listingOf sizes (tables b)) (now (out .exit)) r ⌝ }
 {
     let live = b.live;
     let slots = b.slots;
@@ -41,7 +42,7 @@ pub fn put_listing(out: &mut [u8], at: usize, b: Board) -> usize
 
 // Writes a sound board's listing into a buffer that is long enough, and else nothing.
 pub fn write_listing(b: Board, out: &mut [u8]) -> Written
-    ensures { λ r. ⌜ Wrote sizes (tables b) (now (out .entry)) (now (out .exit)) (r .number) (r .length) ⌝ }
+    ensures { λ r. ⌜ filled r (now (out .exit)) ≡ writing sizes (tables b) (now (out .entry)) ⌝ }
 {
     if !sound(b) {
         return Written {

@@ -1,6 +1,5 @@
 -- What the writer of a listing makes of the buffer that is lent to it (02, M-102): for every board and every buffer.
 use Prim.Native.Nat.{ℕ}
-use mathlib.Core.Path.{_≡_}
 use mathlib.Core.Bool.{cond}
 use mathlib.Core.List.{List, _++_}
 use lib.ListN.{length, drop}
@@ -26,7 +25,3 @@ writing z b out =
     (cond (ltb (length out) (length (listingOf z b))) (written 20 0 out)
     (written 0 (length (listingOf z b)) (listingOf z b ++ drop (length (listingOf z b)) out)))
     (written 1 0 out)
-
--- the writer made out′ of the buffer out, and answered n and r
-pub record Wrote (z : Sizes) (b : Tables) (out out′ : List ℕ) (n r : ℕ) : Type 0 where
-  pub is : written n r out′ ≡ writing z b out

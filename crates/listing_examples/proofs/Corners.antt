@@ -19,7 +19,7 @@ use Rattle.text.specs.Lines.{lines}
 use Rattle.text.specs.Write.{entry}
 use Rattle.listing.specs.Live.{liveNumber, liveFlags}
 use Rattle.listing.specs.Content.{risingAbove, placed, boardOf}
-use Rattle.listing.specs.Read.{accepted, liveFields, heldFields, pageFields, pageFits, heldLast, restOf, contentOf, ended, said, judged, reading}
+use Rattle.listing.specs.Read.{accepted, liveFields, heldFields, pageFields, pageFits, heldLast, restOf, contentOf, ended, said, refusal, judged, reading}
 
 -- lines, each with its newline
 abbrev text : List String → List ℕ
@@ -58,7 +58,7 @@ pub record Corners : Type 0 where
   pub disorder-first : answer ("live=1" ∷ "held=1" ∷ []) ≡ 18
 
 pub corners : Corners
-unfolding placeFor cached emptyIn line frame every some count tabulateFrom less within slotTest pagesTest cacheTest soundTest startBoard decimalIn decimal digitOf firstDigit oneMoreDigit numberAt keyAt fieldAt oneField threeFields fiveFields lines entry liveNumber liveFlags risingAbove placed boardOf liveFields heldFields pageFields pageFits heldLast restOf contentOf ended said judged reading
+unfolding placeFor cached emptyIn line frame every some count tabulateFrom less within slotTest pagesTest cacheTest soundTest startBoard decimalIn decimal digitOf firstDigit oneMoreDigit numberAt keyAt fieldAt oneField threeFields fiveFields lines entry liveNumber liveFlags risingAbove placed boardOf liveFields heldFields pageFields pageFits heldLast restOf contentOf ended said refusal judged reading
 corners = record {
   start = refl;
   session = refl;

@@ -1,4 +1,7 @@
 pub mod Answers
 pub mod Rows
 pub mod RoundTrip
+pub mod OneListing
+pub mod Longest
+pub mod Reached
 pub mod Models

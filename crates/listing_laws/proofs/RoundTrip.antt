@@ -256,7 +256,7 @@ module _ (z : Sizes) (small : Readable z) (b : Tables) (w : Sound z b) where
       ap (λ (k : ℕ). liveFlags k (liveNumber (b .live))) (sym (w .shape .live-long)) ∙ flags-of-number (b .live) in
       λ i. record { slots = slots-are i; live = live-are i; places = replicate (z .places) emptyPlace; next = 0 }
 
-  content-fits : Fits z (contentIn z b)
+  pub content-fits : Fits z (contentIn z b)
   content-fits =
       let pool-in = pool-within z small in
       let few : length (rowsOf z (tableOf b)) ≤ slotCount z - z .pages = rows-few z (tableOf b) (z .pages) (slotCount z - z .pages) in

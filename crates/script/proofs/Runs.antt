@@ -8,9 +8,10 @@ use lib.ListN.{length, length-append, length-drop, take, drop}
 use lib.Dec.{ltb}
 use lib.Seq.{take-at}
 use borrow.Author.Tests.{lt-ltb, le-ltb, ltb-false}
+use Rattle.lend.specs.Sizes.{Sizes}
 use Rattle.text.specs.Write.{lastPosition, Wrote}
 use Rattle.text.proofs.Writing.{Exactly, wrote-exactly}
-use Rattle.script.specs.Run.{Printed, printed, printing, Told}
+use Rattle.script.specs.Run.{Printed, printed, printing, Told, Ran, RanFrom}
 
 -- the buffer is too short
 pub told-short : {most : ℕ} (output out : List ℕ) → length out < most → Told most output out out 0
@@ -27,9 +28,16 @@ told-whole output out {out′} {r} b l p w =
 
 -- ── what a run settles ───────────────────────────────────────────────────
 -- one outcome only
-pub told-once : {most : ℕ} {output out out′ out″ : List ℕ} {r r′ : ℕ} → Told most output out out′ r → Told most output out out″ r′
+told-once : {most : ℕ} {output out out′ out″ : List ℕ} {r r′ : ℕ} → Told most output out out′ r → Told most output out out″ r′
     → (out′ ≡ out″) × (r ≡ r′)
 told-once v w = let e = v .is ∙ sym (w .is) in (ap (λ (p : Printed). p .held) e, ap (λ (p : Printed). p .count) e)
+
+pub ran-once : (z : Sizes) (s : List ℕ) {out out′ out″ : List ℕ} {r r′ : ℕ} → Ran z s out out′ r → Ran z s out out″ r′ → (out′ ≡ out″) × (r ≡ r′)
+ran-once z s v w = told-once v w
+
+pub from-once : (z : Sizes) (listing s : List ℕ) {out out′ out″ : List ℕ} {r r′ : ℕ} → RanFrom z listing s out out′ r
+    → RanFrom z listing s out out″ r′ → (out′ ≡ out″) × (r ≡ r′)
+from-once z listing s v w = told-once v w
 
 module _ {most : ℕ} {output out out′ : List ℕ} {r : ℕ} (g : Told most output out out′ r) where
   -- in a buffer that is long enough the first bytes, as many as are told, are the output

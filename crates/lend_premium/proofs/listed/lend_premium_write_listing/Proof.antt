@@ -14,13 +14,13 @@ write-listing-requires : tie.Need-write-listing-requires
 write-listing-requires c κs = search needs
 
 cast-t8 : tie.Need-cast-t8
-cast-t8 c = let short = written-short sizes (c .before .before .before .write-listing .ensures) in search needs
+cast-t8 c = let short = written-short sizes _ _ (c .before .before .before .write-listing .ensures) in search needs
 
 same-length : tie.Need-same-length
 same-length c = search needs
 
 returns : tie.Need-returns
-returns c = listed-image sizes _ (c .before .before .before .before .before .before .read-image .ensures) (c .before .before .before .before .write-listing .ensures)
+returns c = listed-image sizes _ _ (c .before .before .before .before .before .before .read-image .ensures) (c .before .before .before .before .write-listing .ensures)
 
 pub lend-premium-write-listing-spec : {M : Type 1} → statement M
 lend-premium-write-listing-spec =
