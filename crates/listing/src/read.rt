@@ -64,9 +64,7 @@ pub fn rises(rising: bool, last: usize, next: usize) -> bool
 pub fn refusal(formed: bool, ordered: bool, sound: bool) -> u32
     ensures { λ r. ⌜ r ≡ refusalOf formed ordered sound ⌝ }
 {
-    lend::pick(
-        !formed,
-        17,
-        lend::pick(!ordered, 18, lend::pick(!sound, 1, 0)),
-    )
+    let n = lend::pick(!sound, 1, 0);
+    let n = lend::pick(!ordered, 18, n);
+    lend::pick(!formed, 17, n)
 }

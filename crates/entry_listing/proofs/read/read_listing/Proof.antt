@@ -28,7 +28,10 @@ line-end-requires : tie.Need-line-end-requires
 line-end-requires c κs = search needs
 
 slice-aggregate-live-fields : tie.Need-slice-aggregate-live-fields
-slice-aggregate-live-fields c = let h : c .before .line-end .result ≤ length (c .before .before .before .before .before .args .text .now) = line-within _ 0 _ (c .before .line-end .ensures) (omega arith) in sym (length-take-le {A = ℕ} (c .before .line-end .result) (c .before .before .before .before .before .args .text .now) h)
+slice-aggregate-live-fields c =
+    let text = c .before .before .before .before .before .args .text .now in
+    let h : c .before .line-end .result ≤ length text = line-within _ 0 _ (c .before .line-end .ensures) (omega arith) in
+    sym (length-take-le {A = ℕ} (c .before .line-end .result) text h)
 
 live-fields-requires : tie.Need-live-fields-requires
 live-fields-requires c κs = search needs
@@ -43,16 +46,33 @@ refused-requires-2 : tie.Need-refused-requires-2
 refused-requires-2 c κs = search needs
 
 returns-2 : tie.Need-returns-2
-returns-2 c = c .refused2 .ensures ∙ first-bad sizes _ (sym (c .before .before .before .before .before .before .before .before .ended .ensures) ∙ not-false _ (c .before .before .before .before .before .before .before .if1 .left)) (c .before .before .before .before .before .before .line-end .ensures) (c .before .before .before .before .live-fields .ensures) (sym (c .before .before .one-fits .ensures ∙ ap (λ (m : ℕ). c .before .before .before .before .live-fields .result .ok && leb (c .before .before .before .before .live-fields .result .first) m) (c .before .before .before .live-number .ensures)) ∙ not-true _ (c .before .if2 .taken))
+returns-2 c =
+    let line = c .before .before .before .before .before .before in
+    let first = c .before .before .before .before .live-fields in
+    let most = ap (λ (m : ℕ). first .result .ok && leb (first .result .first) m) (c .before .before .before .live-number .ensures) in
+    c .refused2 .ensures
+    ∙ first-bad sizes _ (sym (line .before .before .ended .ensures) ∙ not-false _ (line .before .if1 .left)) (line .line-end .ensures)
+    (first .ensures)
+    (sym (c .before .before .one-fits .ensures ∙ most) ∙ not-true _ (c .before .if2 .taken))
 
 add-read-from : tie.Need-add-read-from
-add-read-from c = let h : c .before .before .before .before .before .line-end .result ≤ length (c .before .before .before .before .before .before .before .before .before .args .text .now) = line-within _ 0 _ (c .before .before .before .before .before .line-end .ensures) (omega arith) in search needs
+add-read-from c =
+    let line = c .before .before .before .before .before in
+    let h : line .line-end .result ≤ length (line .before .before .before .before .args .text .now) = line-within _ 0 _ (line .line-end .ensures) (omega arith) in
+    search needs
 
 read-from-requires : tie.Need-read-from-requires
 read-from-requires c κs = search needs
 
 returns-3 : tie.Need-returns-3
-returns-3 c = c .read-from .ensures ∙ first-read sizes _ (sym (c .before .before .before .before .before .before .before .before .ended .ensures) ∙ not-false _ (c .before .before .before .before .before .before .before .if1 .left)) (c .before .before .before .before .before .before .line-end .ensures) (c .before .before .before .before .live-fields .ensures) (sym (c .before .before .one-fits .ensures ∙ ap (λ (m : ℕ). c .before .before .before .before .live-fields .result .ok && leb (c .before .before .before .before .live-fields .result .first) m) (c .before .before .before .live-number .ensures)) ∙ not-false _ (c .before .if2 .left))
+returns-3 c =
+    let line = c .before .before .before .before .before .before in
+    let first = c .before .before .before .before .live-fields in
+    let most = ap (λ (m : ℕ). first .result .ok && leb (first .result .first) m) (c .before .before .before .live-number .ensures) in
+    c .read-from .ensures
+    ∙ first-read sizes _ (sym (line .before .before .ended .ensures) ∙ not-false _ (line .before .if1 .left)) (line .line-end .ensures)
+    (first .ensures)
+    (sym (c .before .before .one-fits .ensures ∙ most) ∙ not-false _ (c .before .if2 .left))
 
 pub read-listing-spec : {M : Type 1} → statement M
 read-listing-spec =

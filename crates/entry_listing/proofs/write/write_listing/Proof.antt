@@ -1,8 +1,11 @@
 -- `write_listing` meets its contract: an unsound board, a short buffer, and one that is long enough.
 use Rattle.entry_listing.proofs as own
 use Prim.Native.Nat.{ℕ, _≤_}
+use mathlib.Core.Path.{_≡_}
+use mathlib.Core.List.{List}
 use native.Mathlib.Omega.{arith}
-use lib.ListN.{length}
+use lib.ListN.{length, take}
+use lib.Seq.{length-take-le}
 use borrow.Author.Tests.{not-true, not-false}
 use Rattle.lend.specs.Tables.{Tables}
 use Rattle.text.specs.Write.{lastPosition}
@@ -17,6 +20,10 @@ use own.write.write_listing.Tie as tie
 far : (b : Tables) → length (listingOf sizes b) ≤ lastPosition
 far b = omega (arith, listing-length sizes b)
 
+-- the length of a part: asked of the wrong program that measures in the whole buffer, and not of an empty part
+take-long : (n : ℕ) (l : List ℕ) → n ≤ length l → length (take n l) ≡ n
+take-long n l h = length-take-le n l h
+
 sound-requires : tie.Need-sound-requires
 sound-requires c κs = search needs
 
@@ -27,7 +34,7 @@ slice-relend-prefix-put-listing : tie.Need-slice-relend-prefix-put-listing
 slice-relend-prefix-put-listing c = search needs
 
 slice-aggregate-put-listing : tie.Need-slice-aggregate-put-listing
-slice-aggregate-put-listing c = search needs
+slice-aggregate-put-listing c = search (needs, take-long)
 
 put-listing-requires : tie.Need-put-listing-requires
 put-listing-requires c κs = search needs
@@ -36,7 +43,10 @@ same-length : tie.Need-same-length
 same-length c = search needs
 
 returns-2 : tie.Need-returns-2
-returns-2 c = short-written sizes _ (c .before .before .before .before .before .before .sound .ensures) (not-false _ (c .before .before .before .before .before .if1 .left)) (c .before .before .before .put-listing .ensures) (far _) _ (search needs)
+returns-2 c =
+    let test = c .before .before .before .before .before in
+    short-written sizes _ (test .before .sound .ensures) (not-false _ (test .if1 .left)) (c .before .before .before .put-listing .ensures) (far _) _
+    (search needs)
 
 put-listing-requires-2 : tie.Need-put-listing-requires-2
 put-listing-requires-2 c κs = search needs
@@ -45,7 +55,11 @@ same-length-2 : tie.Need-same-length-2
 same-length-2 c = search needs
 
 returns-3 : tie.Need-returns-3
-returns-3 c = whole-written sizes _ (c .before .before .before .before .before .before .before .before .before .before .sound .ensures) (not-false _ (c .before .before .before .before .before .before .before .before .before .if1 .left)) (c .before .before .before .before .before .before .before .put-listing .ensures) (far _) _ (search needs) (c .before .before .put-listing2 .ensures)
+returns-3 c =
+    let test = c .before .before .before .before .before .before .before .before .before in
+    whole-written sizes _ (test .before .sound .ensures) (not-false _ (test .if1 .left)) (c .before .before .before .before .before .before .before .put-listing .ensures) (far _) _
+    (search needs)
+    (c .before .before .put-listing2 .ensures)
 
 pub write-listing-spec : {M : Type 1} → statement M
 write-listing-spec =
