@@ -2,10 +2,11 @@
  *
  * Every call takes every input. An image that is not a board's, a board that is not sound, a bad number or a forbidden request is
  * refused by a number of the table below; after a refusal every byte of the image and of the memory is as it was, and every out
- * field is 0. The caller checks nothing first.
+ * field is 0. Where read_listing refuses a text, and there alone, the image is the start board's. The caller checks nothing first.
  *
- * What the proofs assume of the caller: `image` and `memory` are valid for reading and writing over the lengths that are
- * given with them, `out` over its four numbers, and no two of them overlap. `load` only reads its memory.
+ * What the proofs assume of the caller: `image`, `memory` and `text` are valid for reading and writing over the lengths that are
+ * given with them, `out` over its four numbers, and no two of them overlap. `load` only reads its memory, read_listing its text. A
+ * pointer whose length is 0 need not be readable, but is not NULL.
  */
 #ifndef LEND_H
 #define LEND_H
@@ -36,9 +37,10 @@ enum lend_number {
     LEND_RING = 13,            /* a page on the giver's line, its own page included, is in the taker's space */
     LEND_SOURCE_BELOW = 14,    /* a page of the source's space is below the taker's page */
     LEND_TAKER_BELOW = 15,     /* a page of the taker's space, other than the taker's page, is below the source */
+    LEND_MALFORMED = 16,       /* a request is malformed: a line of a script, which no call takes */
     LEND_LISTING = 17,         /* a listing is malformed */
     LEND_LISTING_ORDER = 18,   /* a listing's pages are out of order or named twice, or their number is wrong */
-    LEND_BUFFER = 20           /* the text is too short for the listing */
+    LEND_BUFFER = 20           /* a buffer is too short */
 };
 
 /* Rights are a sum of these. */
@@ -99,10 +101,12 @@ uint32_t lend_entry_start(uint8_t *image, size_t image_length, uint32_t out[4]);
 /* 1 where the image is a sound board's, else 0. */
 uint32_t lend_entry_sound(uint8_t *image, size_t image_length);
 
-/* Writes the listing of a sound board. out[0]: its length. The image is only read. */
+/* Writes the listing of a sound board to the start of the text (docs/COMMANDS.md, 'Listings'). out[0]: its length. LEND_UNSOUND, then
+ * LEND_BUFFER; the image is only read, and the bytes of the text past the listing stay. */
 uint32_t lend_entry_write_listing(uint8_t *image, size_t image_length, uint8_t *text, size_t text_length, uint32_t out[4]);
-/* Reads a listing over any bytes of the image's length: the board that it lists, with an empty cache, and where it is refused the start
- * board. The text is only read. */
+/* Reads a listing over any bytes of the image's length. LEND_LISTING, then LEND_LISTING_ORDER, then LEND_UNSOUND where its board is
+ * not sound, each with the start board; else the board that it lists, with an empty cache. LEND_UNSOUND too, and nothing is written,
+ * where the image has another length. */
 uint32_t lend_entry_read_listing(uint8_t *image, size_t image_length, uint8_t *text, size_t text_length, uint32_t out[4]);
 
 /* out[0]: how many pages were held before the call and are empty after it. The other fields are 0. */
@@ -157,10 +161,12 @@ uint32_t lend_premium_start(uint8_t *image, size_t image_length, uint32_t out[4]
 /* 1 where the image is a sound board's, else 0. */
 uint32_t lend_premium_sound(uint8_t *image, size_t image_length);
 
-/* Writes the listing of a sound board. out[0]: its length. The image is only read. */
+/* Writes the listing of a sound board to the start of the text (docs/COMMANDS.md, 'Listings'). out[0]: its length. LEND_UNSOUND, then
+ * LEND_BUFFER; the image is only read, and the bytes of the text past the listing stay. */
 uint32_t lend_premium_write_listing(uint8_t *image, size_t image_length, uint8_t *text, size_t text_length, uint32_t out[4]);
-/* Reads a listing over any bytes of the image's length: the board that it lists, with an empty cache, and where it is refused the start
- * board. The text is only read. */
+/* Reads a listing over any bytes of the image's length. LEND_LISTING, then LEND_LISTING_ORDER, then LEND_UNSOUND where its board is
+ * not sound, each with the start board; else the board that it lists, with an empty cache. LEND_UNSOUND too, and nothing is written,
+ * where the image has another length. */
 uint32_t lend_premium_read_listing(uint8_t *image, size_t image_length, uint8_t *text, size_t text_length, uint32_t out[4]);
 
 /* out[0]: how many pages were held before the call and are empty after it. The other fields are 0. */
