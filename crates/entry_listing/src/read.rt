@@ -29,7 +29,6 @@ ghost use Rattle.listing.specs.Content.{rowKey, rowSlot, boardWith};
 ghost use Rattle.listing.specs.Read.{refused as refusedOf, judged as judgedOf, reading, pageFits, rowIn};
 ghost use Rattle.listing.specs.Loop.{readFrom};
 ghost use Rattle.entry.specs.Sizes.{sizes};
-ghost use Rattle.entry.specs.Board.{tables};
 ghost use Rattle.entry_listing.specs.Answer.{answer};
 
 // What the reader answers: the number, and the board.

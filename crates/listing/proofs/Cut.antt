@@ -1,14 +1,14 @@
 -- Text as lines: what ends with a newline is its lines, each with a newline; and a line with none in it is cut off as it is.
-use Prim.Native.Nat.{ℕ, zero, suc, _+_, _-_, _%_, _/_, _≤_}
+use Prim.Native.Nat.{ℕ, zero, suc, _+_, _-_, _%_, _/_}
 use mathlib.Core.Path.{_≡_, refl, sym, ap, _∙_}
-use mathlib.Core.Bool.{Bool, true, false, not, _&&_, cond, false≢true}
+use mathlib.Core.Bool.{Bool, true, false, not, _&&_, cond}
 use mathlib.Core.List.{List, [], _∷_, _++_, append-assoc}
 use native.Mathlib.Omega.{arith}
-use lib.ListN.{length, getD, length-append}
+use lib.ListN.{length, length-append}
 use lib.Seq.{getD-append-seam}
 use lib.Dec.{T, eqb, ltb}
 use borrow.Author.Tests.{ne-eqb, eqb-true}
-use Rattle.lend_basics.proofs.Bools.{and-l, and-r, and-i, is-true, not-is-false}
+use Rattle.lend_basics.proofs.Bools.{and-l, and-r, and-i, not-is-false}
 use Rattle.text.specs.Ascii.{newline}
 use Rattle.text.specs.Decimal.{digitByte, decimalIn, decimal}
 use Rattle.text.specs.Lines.{lines, inFront}

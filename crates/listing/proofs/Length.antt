@@ -1,6 +1,5 @@
 -- How long a listing can be.
 use Prim.Native.Nat.{ℕ, zero, suc, _+_, _*_, _-_, _≤_, zero-le}
-use mathlib.Core.Path.{_≡_}
 use native.Mathlib.Omega.{arith}
 use lib.ListN.{length, length-append}
 use Rattle.lend.specs.Sizes.{Sizes, slotCount, spaceOf}

@@ -11,9 +11,8 @@ use lib.Seq.{drop-cons, ext-getD, getD-set-same, getD-set-other}
 use borrow.Author.Count.{below-more}
 use lib.Dec.{eqb}
 use borrow.Author.Tests.{eq-eqb, ne-eqb, eqb-true, eqb-false}
-use Rattle.lend.specs.Sizes.{Sizes}
 use Rattle.lend.specs.Tables.{alive}
-use Rattle.listing.specs.Live.{liveNumber, liveFlags, allLive}
+use Rattle.listing.specs.Live.{liveNumber, liveFlags}
 
 pub flags-length : (n m : ℕ) → length (liveFlags n m) ≡ n
 unfolding liveFlags

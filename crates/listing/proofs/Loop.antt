@@ -5,18 +5,17 @@ use mathlib.Core.Bool.{Bool, true, false, _&&_, cond, false≢true}
 use mathlib.Core.List.{List, [], _∷_}
 use mathlib.Core.Option.{Option, none, some}
 use native.Mathlib.Omega.{arith}
-use lib.ListN.{length, drop, take, set, getD, length-set, drop-of-length-le, length-drop}
+use lib.ListN.{length, drop, take, set, drop-of-length-le, length-drop}
 use lib.Seq.{drop-drop}
-use lib.Dec.{T, eqb, ltb, leb}
+use lib.Dec.{eqb, ltb, leb}
 use Rattle.lend.specs.declared.Slot.{Slot}
 use Rattle.lend.specs.Sizes.{Sizes, slotCount}
 use Rattle.lend.specs.Start.{startBoard}
-use Rattle.lend.specs.Tables.{Tables}
 use Rattle.text.specs.declared.Fields.{Fields}
 use Rattle.text.specs.Lines.{lines, lineLength}
 use Rattle.text.proofs.Seeking.{lines-first}
 use Rattle.listing.specs.Live.{allLive}
-use Rattle.listing.specs.Content.{Row, Content, rowKey, risingAbove, rowSlot, placed, boardWith, boardOf}
+use Rattle.listing.specs.Content.{Row, rowKey, risingAbove, rowSlot, placed, boardWith, boardOf}
 use Rattle.listing.specs.Read.{Answer, refused, refusal, judged, liveFields, heldFields, pageFields, rowIn, pageFits, Rest, withRow, heldLast, restOf, withLive, contentOf, ended, said, answerBy, reading}
 use Rattle.listing.specs.Loop.{finish, readFrom}
 

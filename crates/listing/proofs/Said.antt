@@ -7,14 +7,13 @@ use mathlib.Core.Option.{Option, none, some}
 use native.Mathlib.Omega.{arith}
 use native.Mathlib.Nat.{mul-le-mul-right, suc-mul}
 use lib.ListN.{length}
-use lib.Dec.{T, ltb, leb, ltb→lt, lt→ltb, leb→le, le→leb}
+use lib.Dec.{T, leb, ltb→lt, lt→ltb, leb→le, le→leb}
 use borrow.Author.Tests.{le-leb}
 use Rattle.lend_basics.proofs.Bools.{and-l, and-r, and-i, is-true, true-is}
 use Rattle.lend.specs.Sizes.{Sizes, slotCount}
 use Rattle.lend.specs.Rights.{allRights}
 use Rattle.text.specs.declared.Fields.{Fields}
 use Rattle.text.specs.Ascii.{bytes, newline}
-use Rattle.text.specs.Fields.{oneField, fiveFields}
 use Rattle.text.specs.Lines.{lines}
 use Rattle.text.specs.Write.{entry, liveLine, pageLine, heldLine}
 use Rattle.text_laws.proofs.Numbers.{mostRead}

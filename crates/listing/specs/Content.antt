@@ -88,10 +88,16 @@ unfoldable pub placed : Sizes → List Slot → List Row → List Slot
 placed z slots [] = slots
 placed z slots (r ∷ rest) = placed z (set slots (rowKey z r) (rowSlot r)) rest
 
--- space 0 holds the frames, the rows are lent, all else is empty, and so is the cache
+-- a board with these slots, the live spaces of a number, and an empty cache
 abbrev pub boardWith : Sizes → List Slot → ℕ → Tables
-boardWith z slots live = record { slots = slots; live = liveFlags (z .spaces) live; places = replicate (z .places) emptyPlace; next = 0 }
+boardWith z slots live = record {
+  slots = slots;
+  live = liveFlags (z .spaces) live;
+  places = replicate (z .places) emptyPlace;
+  next = 0;
+}
 
+-- space 0 holds its frames, the rows are lent, all else is empty
 unfoldable pub boardOf : Sizes → Content → Tables
 boardOf z c = boardWith z (placed z (startBoard z .slots) (c .rows)) (c .live)
 

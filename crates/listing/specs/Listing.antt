@@ -1,4 +1,5 @@
--- The listing of a board as bytes: the live spaces, the held pages outside space 0, and their number (01, 'The script program'; 02, M-102).
+-- The listing of a board as bytes: the live spaces, the held pages outside space 0, and their number (01, 'The script program';
+-- 02, M-102).
 use Prim.Native.Nat.{ℕ, zero, suc, _-_, _%_}
 use mathlib.Core.Bool.{not, _&&_}
 use mathlib.Core.List.{List, [], _++_}

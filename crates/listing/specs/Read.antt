@@ -1,6 +1,6 @@
--- The reader of a listing as a definition, from any bytes to a number and a board (02, M-102). `Reads` is what it has to answer, in the
--- document's words; that `reading` answers so is the theorem `reads` (listing_laws, Answers).
-use Prim.Native.Nat.{ℕ, _+_, _-_}
+-- The reader of a listing as a definition, from any bytes to a number and a board (02, M-102). `Reads` is what it has to answer;
+-- that `reading` answers so, and that no other answer is right, are the theorems `reads` and `reads-once` (listing_laws, Answers).
+use Prim.Native.Nat.{ℕ, _-_}
 use mathlib.Core.Path.{_≡_}
 use mathlib.Core.Bool.{Bool, true, not, _&&_, cond}
 use mathlib.Core.List.{List, [], _∷_}
@@ -33,6 +33,7 @@ abbrev pub accepted : Tables → Answer
 accepted b = record { number = 0; board = b }
 
 -- ── what is to be answered ───────────────────────────────────────────────
+-- a text that says nothing is malformed; then its order is asked, and then its board
 pub record Reads (z : Sizes) (s : List ℕ) (a : Answer) : Type 0 where
   pub malformed : ((c : Content) → Says z s c → ⊥) → a ≡ refused z 17
   pub disordered : (c : Content) → Says z s c → (Ordered z c → ⊥) → a ≡ refused z 18
@@ -60,6 +61,10 @@ pageFits z f =
     && leb 1 (f .fifth)
     && leb (f .fifth) allRights
 
+-- a line of one number, which is no larger than the most
+abbrev pub oneFits : Fields → ℕ → Bool
+oneFits f most = f .ok && leb (f .first) most
+
 -- the lines after the first: the last is `held=`, those before it are pages
 pub record Rest : Type 0 where
   pub rows : List Row
@@ -70,12 +75,13 @@ withRow r none = none
 withRow r (some t) = some (record { rows = r ∷ t .rows; held = t .held })
 
 unfoldable pub heldLast : Sizes → Fields → Option Rest
-heldLast z f = cond (f .ok && leb (f .first) (slotCount z - z .pages)) (some (record { rows = []; held = f .first })) none
+heldLast z f = cond (oneFits f (slotCount z - z .pages)) (some (record { rows = []; held = f .first })) none
 
 unfoldable pub restOf : Sizes → List (List ℕ) → Option Rest
 restOf z [] = none
 restOf z (line ∷ []) = heldLast z (heldFields line)
-restOf z (line ∷ more ∷ rest) = cond (pageFits z (pageFields line)) (withRow (rowIn (pageFields line)) (restOf z (more ∷ rest))) none
+restOf z (line ∷ more ∷ rest) =
+    cond (pageFits z (pageFields line)) (withRow (rowIn (pageFields line)) (restOf z (more ∷ rest))) none
 
 abbrev pub withLive : ℕ → Option Rest → Option Content
 withLive live none = none
@@ -84,7 +90,7 @@ withLive live (some t) = some (record { live = live; rows = t .rows; held = t .h
 unfoldable pub contentOf : Sizes → List (List ℕ) → Option Content
 contentOf z [] = none
 contentOf z (line ∷ rest) =
-    cond (liveFields line .ok && leb (liveFields line .first) (allLive z)) (withLive (liveFields line .first) (restOf z rest)) none
+    cond (oneFits (liveFields line) (allLive z)) (withLive (liveFields line .first) (restOf z rest)) none
 
 -- the last byte is a newline
 unfoldable pub ended : List ℕ → Bool

@@ -1,8 +1,7 @@
 // The lines of a listing, read from a slice: once for both models.
 ghost use mathlib.Core.Path.{_≡_};
-ghost use mathlib.Core.Bool.{_&&_};
-ghost use lib.Dec.{leb, ltb};
-ghost use Rattle.listing.specs.Read.{ended as endedOf, liveFields, heldFields, pageFields, refusal as refusalOf};
+ghost use Rattle.listing.specs.Read.{ended as endedOf, liveFields, heldFields, pageFields, oneFits, refusal as refusalOf};
+ghost use Rattle.listing.specs.Loop.{risesTo};
 use text::Fields;
 use text::read::five_fields;
 use text::read::one_field;
@@ -48,14 +47,14 @@ pub fn page_fields(line: &[u8]) -> Fields
 
 // Whether the line of one number is read, and its number is no larger than the most.
 pub fn one_fits(f: Fields, most: u32) -> bool
-    ensures { λ r. ⌜ r ≡ (f .ok && leb (f .first) most) ⌝ }
+    ensures { λ r. ⌜ r ≡ oneFits f most ⌝ }
 {
     f.ok & (f.first <= most)
 }
 
 // Whether pages that rose as far as the last one still rise with the next.
 pub fn rises(rising: bool, last: usize, next: usize) -> bool
-    ensures { λ r. ⌜ r ≡ (rising && ltb last next) ⌝ }
+    ensures { λ r. ⌜ r ≡ risesTo rising last next ⌝ }
 {
     rising & (last < next)
 }

@@ -1,10 +1,8 @@
 -- What M-102 says of listings, each on a text of its own: the number that the definition computes, and the board of the shortest listing.
 use Prim.Native.Nat.{ℕ}
 use mathlib.Core.Path.{_≡_, refl}
-use mathlib.Core.Bool.{Bool, _&&_}
 use mathlib.Core.List.{List, [], _∷_, _++_}
 use Prim.Native.String.{String}
-use lib.Dec.{eqb}
 use Rattle.lend.specs.Sizes as sizes
 use Rattle.lend.specs.Cache.{placeFor, cached, emptyIn}
 use Rattle.lend.specs.Line.{line, frame}

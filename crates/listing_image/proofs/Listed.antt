@@ -1,6 +1,6 @@
 -- What the calls show, from what the functions on a board answered.
 use Prim.Native.Nat.{ℕ, _+_, _*_, _-_, _≤_}
-use mathlib.Core.Path.{_≡_, refl, sym, ap, _∙_}
+use mathlib.Core.Path.{_≡_, ap, _∙_}
 use mathlib.Core.Bool.{Bool, true, false, cond}
 use mathlib.Core.List.{List, [], _++_}
 use native.Mathlib.Omega.{arith}
@@ -10,8 +10,8 @@ use borrow.Author.Tests.{eq-eqb, ne-eqb}
 use Rattle.lend.specs.Sizes.{Sizes, slotCount}
 use Rattle.lend.specs.Tables.{Tables}
 use Rattle.lend.specs.SoundTest.{soundTest}
-use Rattle.image.specs.Image.{imageOf, imageBytes, boardFrom, written}
-use Rattle.image.specs.Answered.{Left, left, fourOf}
+use Rattle.image.specs.Image.{imageBytes, boardFrom, written}
+use Rattle.image.specs.Answered.{left, fourOf}
 use Rattle.listing.specs.Read.{Answer, reading}
 use Rattle.listing.specs.Listing.{listingOf}
 use Rattle.listing.specs.Write.{Written, writing}

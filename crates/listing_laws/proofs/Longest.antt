@@ -1,15 +1,15 @@
 -- How long the listing of a sound board can be, to the byte.
-use Prim.Native.Nat.{ℕ, zero, suc, _+_, _-_, _/_, _%_, _≤_, _<_, zero-le}
-use mathlib.Core.Path.{_≡_, refl, sym, ap, _∙_}
+use Prim.Native.Nat.{ℕ, zero, suc, _+_, _-_, _/_, _%_, _≤_, zero-le}
+use mathlib.Core.Path.{_≡_, refl}
 use mathlib.Core.Bool.{Bool, true, false, cond}
-use mathlib.Core.List.{List, [], _∷_, _++_}
+use mathlib.Core.List.{[], _∷_, _++_}
 use native.Mathlib.Omega.{arith}
 use lib.ListN.{length, length-append}
 use lib.Dec.{ltb}
 use borrow.Author.Tests.{le-ltb, ltb-false}
 use Rattle.lend.specs.declared.Link.{Link}
 use Rattle.lend.specs.declared.Link.the-variants.{Nothing, Frame, Page}
-use Rattle.lend.specs.Sizes.{Sizes, slotCount, spaceOf, entry, premium}
+use Rattle.lend.specs.Sizes.{Sizes, slotCount, spaceOf}
 use Rattle.lend.specs.Rights.{allRights}
 use Rattle.lend.specs.Tables.{Tables, tableOf}
 use Rattle.lend.specs.Sound.{Lent, Sound}
@@ -19,7 +19,7 @@ use Rattle.text.specs.Write as write
 use Rattle.listing.specs.Live.{liveNumber, allLive}
 use Rattle.listing.specs.Listing.{pageIn, linkLine, slotLine, pagesFrom, pagesListed, heldOutside, listingOf}
 use Rattle.listing.proofs.Said.{Readable}
-use Rattle.listing_laws.proofs.RoundTrip.{pool-within, content-fits}
+use Rattle.listing_laws.proofs.RoundTrip.{content-fits}
 
 -- a larger number has no fewer digits
 digits-rise : (k m n : ℕ) → m ≤ n → length (decimalIn k m) ≤ length (decimalIn k n)
@@ -32,7 +32,7 @@ digits-rise (suc k) m n h = go (ltb m 10) refl (digits-rise k (m / 10) (n / 10) 
     go true e q = simp length-append (omega arith)
     go false e q = let l : 10 ≤ m = ltb-false m 10 e in rw (le-ltb n 10 (omega arith)) (simp length-append (omega arith))
 
-decimal-rise : (m n : ℕ) → m ≤ n → length (decimal m) ≤ length (decimal n)
+pub decimal-rise : (m n : ℕ) → m ≤ n → length (decimal m) ≤ length (decimal n)
 unfolding decimal
 decimal-rise m n h = digits-rise 10 m n h
 
@@ -62,7 +62,7 @@ unfolding heldLine write.entry
 held-line m n h = simp length-append (omega (arith, decimal-rise m n h))
 
 module _ (z : Sizes) (small : Readable z) (b : Tables) (w : Sound z b) where
-  page-line : (k : ℕ) → z .pages ≤ k → length (slotLine (spaceOf z k) (pageIn z k) (tableOf b k)) ≤ longestLine z k
+  pub page-line : (k : ℕ) → z .pages ≤ k → length (slotLine (spaceOf z k) (pageIn z k) (tableOf b k)) ≤ longestLine z k
   unfolding slotLine longestLine
   page-line k h = go (tableOf b k .link) refl
     where
@@ -73,23 +73,21 @@ module _ (z : Sizes) (small : Readable z) (b : Tables) (w : Sound z b) where
           let g : Lent z (b .live) (tableOf b) k s p = w .pages .lent k s p e in
           one-line (spaceOf z k) (pageIn z k) s (z .spaces - 1) p (z .pages - 1) (tableOf b k .rights) allRights (omega (arith, g .space-in)) (omega (arith, g .page-in)) (g .known-rights)
 
-  page-lines : (n k : ℕ) → z .pages ≤ k → length (pagesFrom z (tableOf b) k n) ≤ longestLines z k n
+  pub page-lines : (n k : ℕ) → z .pages ≤ k → length (pagesFrom z (tableOf b) k n) ≤ longestLines z k n
   unfolding pagesFrom longestLines
   page-lines zero k h = zero-le
   page-lines (suc n) k h = rw length-append (omega (arith, page-line k h, page-lines n (suc k) (omega arith)))
 
+  -- where the page lines leave n bytes of what they could have, so does the listing
+  pub leaving : (n : ℕ) → length (pagesFrom z (tableOf b) (z .pages) (slotCount z - z .pages)) + n ≤ longestLines z (z .pages) (slotCount z - z .pages)
+      → length (listingOf z b) + n ≤ longest z
+  unfolding listingOf pagesListed longest
+  leaving n h =
+      let fits = content-fits z small b w in
+      let live = live-line (liveNumber (b .live)) (allLive z) (fits .live-to) in
+      let held = held-line (heldOutside z (tableOf b)) (slotCount z - z .pages) (fits .held-to) in
+      simp length-append (omega (arith, live, h, held))
+
   -- no sound board has a longer listing
   pub at-most : length (listingOf z b) ≤ longest z
-  unfolding listingOf pagesListed longest
-  at-most =
-      let fits = content-fits z small b w in
-      simp length-append
-      (omega (arith, live-line (liveNumber (b .live)) (allLive z) (fits .live-to), page-lines (slotCount z - z .pages) (z .pages) (omega arith), held-line (heldOutside z (tableOf b)) (slotCount z - z .pages) (fits .held-to)))
-
-pub entry-most : longest entry ≡ 8908
-unfolding longest longestLines longestLine liveLine pageLine heldLine write.entry decimal decimalIn liveNumber
-entry-most = refl
-
-pub premium-most : longest premium ≡ 39614
-unfolding longest longestLines longestLine liveLine pageLine heldLine write.entry decimal decimalIn liveNumber
-premium-most = refl
+  at-most = let h = page-lines (slotCount z - z .pages) (z .pages) (omega arith) in omega (arith, leaving 0 (omega (arith, h)))

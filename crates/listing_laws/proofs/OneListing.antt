@@ -1,13 +1,12 @@
 -- Boards and listings stand one to one, the cache aside: what follows from the two round trips.
 use Prim.Native.Nat.{ℕ}
 use mathlib.Core.Path.{_≡_, refl, sym, ap, _∙_}
-use mathlib.Core.Bool.{Bool, true, false, _&&_, cond}
+use mathlib.Core.Bool.{Bool, true, false, _&&_}
 use mathlib.Core.Logic.{_⊎_, inl, inr}
 use mathlib.Core.List.{List}
 use mathlib.Core.Option.{Option, none, some}
 use lib.ListN.{length}
 use lib.Dec.{eqb}
-use borrow.Author.Tests.{eqb-true}
 use Rattle.lend.specs.Sizes.{Sizes}
 use Rattle.lend.specs.Tables.{Tables}
 use Rattle.lend.specs.Sound.{Sound}

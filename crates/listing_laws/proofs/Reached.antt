@@ -1,7 +1,7 @@
 -- A sound board for each model whose listing is as long as one can be.
 use Prim.Native.Nat.{ℕ, _-_}
 use mathlib.Core.Path.{_≡_, refl}
-use mathlib.Core.Bool.{Bool, true, _&&_, cond}
+use mathlib.Core.Bool.{true, _&&_, cond}
 use lib.ListN.{length, replicate}
 use lib.Dec.{eqb, leb}
 use Rattle.lend.specs.declared.Slot.{Slot}

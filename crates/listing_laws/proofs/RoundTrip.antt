@@ -1,38 +1,36 @@
 -- Write, then read: a sound board comes back with an empty cache. Read, then write: an accepted listing comes back byte by byte.
-use Prim.Native.Nat.{ℕ, zero, suc, _+_, _*_, _-_, _/_, _%_, _≤_, _<_}
+use Prim.Native.Nat.{ℕ, zero, suc, _+_, _*_, _-_, _≤_, _<_}
 use mathlib.Core.Path.{_≡_, refl, sym, subst, ap, _∙_}
 use mathlib.Core.Bool.{Bool, true, false, not, _&&_, cond}
 use mathlib.Core.Logic.{_⊎_, inl, inr}
-use mathlib.Core.List.{List, [], _∷_, _++_}
+use mathlib.Core.List.{List, _∷_}
 use native.Mathlib.Omega.{arith}
 use native.Mathlib.Decide.{decLt}
-use native.Mathlib.Nat.{mul-le-mul-right, suc-mul, eq-or-lt-of-le, le-of-suc-le-suc, le-div-iff-mul-le, div-lt-iff-lt-mul, mod-lt}
-use lib.ListN.{length, getD, set, length-set, replicate, length-replicate, getD-replicate, List·getD-eq-default}
+use native.Mathlib.Nat.{mul-le-mul-right, eq-or-lt-of-le, le-of-suc-le-suc, le-div-iff-mul-le, div-lt-iff-lt-mul, mod-lt}
+use lib.ListN.{length, set, length-set, replicate, length-replicate, getD-replicate, List·getD-eq-default}
 use lib.Seq.{ext-getD, getD-set-same, getD-set-other}
-use lib.Dec.{T, ltb, ltb→lt, lt→ltb}
-use Rattle.lend_basics.proofs.Bools.{and-l, and-r, and-i}
+use lib.Dec.{T, ltb, lt→ltb}
+use Rattle.lend_basics.proofs.Bools.{and-r, and-i}
 use Rattle.lend_basics.proofs.Lists.{length-tabulate}
 use Rattle.lend.specs.declared.Link.{Link}
 use Rattle.lend.specs.declared.Link.the-variants.{Nothing, Frame, Page}
 use Rattle.lend.specs.declared.Slot.{Slot}
-use Rattle.lend.specs.declared.Place.{Place}
-use Rattle.lend.specs.Sizes.{Sizes, slotCount, key, spaceOf, inPool}
+use Rattle.lend.specs.Sizes.{Sizes, slotCount, inPool}
 use Rattle.lend.specs.Lists.{count}
-use Rattle.lend.specs.Slots.{Table, emptySlot, frameSlot, held, linked, slotAt}
-use Rattle.lend.specs.Tables.{Tables, tableOf, alive}
+use Rattle.lend.specs.Slots.{Table, emptySlot, held, linked, slotAt}
+use Rattle.lend.specs.Tables.{Tables, tableOf}
 use Rattle.lend.specs.Cache.{emptyPlace, filled, placeAt}
-use Rattle.lend.specs.Sound.{Lent, SoundPages, SoundCache, Sound}
+use Rattle.lend.specs.Sound.{Lent, Sound}
 use Rattle.lend.specs.Start.{startBoard}
-use Rattle.lend_sound.proofs.Start.{start-pool, start-empty, start-sound}
-use Rattle.text.specs.Write.{liveLine, pageLine, heldLine}
-use Rattle.listing.specs.Live.{liveNumber, liveFlags, allLive}
-use Rattle.listing.specs.Listing.{pageIn, pagesFrom, pagesListed, heldOutside, listingOf}
-use Rattle.listing.specs.Content.{Row, Content, rowLines, spelt, RowFits, AllFit, no-rows, one-row, Fits, Says, rowKey, risingAbove, Ordered, rowSlot, placed, boardOf, cleared}
-use Rattle.listing.specs.Read.{Reads, accepted, reading}
+use Rattle.lend_sound.proofs.Start.{start-pool, start-empty}
+use Rattle.listing.specs.Live.{liveNumber, liveFlags}
+use Rattle.listing.specs.Listing.{pagesListed, heldOutside, listingOf}
+use Rattle.listing.specs.Content.{Row, Content, spelt, RowFits, AllFit, no-rows, one-row, Fits, rowKey, risingAbove, Ordered, rowSlot, placed, boardOf, cleared}
+use Rattle.listing.specs.Read.{accepted, reading}
 use Rattle.listing.proofs.Live.{flags-of-number, number-of-flags, number-most}
 use Rattle.listing.proofs.Writing.{none-counted}
 use Rattle.listing.proofs.Said.{Readable}
-use Rattle.listing_laws.proofs.Answers.{reads, Taken, taken}
+use Rattle.listing_laws.proofs.Answers.{reads, taken}
 use Rattle.listing_laws.proofs.Rows.{parentSpace, parentPage, rowAt, rowsFrom, pages-rows, rows-few, rows-counted, key-of-page, placed-length, rows-back}
 
 -- space 0 and at least one more

@@ -1,12 +1,12 @@
 -- The rows of a table: their lines are the listing's, they are counted, and they are read from the rows' own board.
-use Prim.Native.Nat.{ℕ, zero, suc, _+_, _*_, _-_, _/_, _%_, _≤_, _<_}
+use Prim.Native.Nat.{ℕ, zero, suc, _+_, _*_, _≤_, _<_}
 use mathlib.Core.Path.{_≡_, refl, sym, subst, ap, _∙_}
 use mathlib.Core.Bool.{Bool, true, false, not, _&&_, cond}
 use mathlib.Core.Logic.{_⊎_, inl, inr}
 use mathlib.Core.List.{List, [], _∷_, _++_}
 use native.Mathlib.Omega.{arith}
-use native.Mathlib.Nat.{div-add-mod', eq-or-lt-of-le, add-suc, suc-add}
-use lib.ListN.{length, getD, set, length-set}
+use native.Mathlib.Nat.{div-add-mod', eq-or-lt-of-le}
+use lib.ListN.{length, set, length-set}
 use lib.Seq.{getD-set-same, getD-set-other}
 use lib.Dec.{T, ltb, ltb→lt, lt→ltb}
 use borrow.Author.Tests.{le-ltb}
@@ -21,7 +21,7 @@ use Rattle.lend_sound.proofs.Lines.{space-of-key}
 use Rattle.text.specs.Write.{pageLine}
 use Rattle.listing.proofs.Said.{key-below}
 use Rattle.listing.specs.Listing.{linkLine, slotLine, pageIn, pagesFrom}
-use Rattle.listing.specs.Content.{Row, rowLine, rowLines, RowFits, AllFit, no-rows, one-row, rowKey, risingAbove, rowSlot, placed}
+use Rattle.listing.specs.Content.{Row, rowLines, RowFits, AllFit, no-rows, one-row, rowKey, risingAbove, rowSlot, placed}
 
 abbrev pub parentSpace : Link → ℕ
 parentSpace Nothing = 0

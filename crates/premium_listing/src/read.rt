@@ -30,7 +30,6 @@ ghost use Rattle.listing.specs.Content.{rowKey, rowSlot, boardWith};
 ghost use Rattle.listing.specs.Read.{refused as refusedOf, judged as judgedOf, reading, pageFits, rowIn};
 ghost use Rattle.listing.specs.Loop.{readFrom};
 ghost use Rattle.premium.specs.Sizes.{sizes};
-ghost use Rattle.premium.specs.Board.{tables};
 ghost use Rattle.premium_listing.specs.Answer.{answer};
 
 // What the reader answers: the number, and the board.

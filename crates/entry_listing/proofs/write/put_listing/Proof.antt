@@ -1,6 +1,6 @@
 -- `put_listing` meets its contract. The invariant: what is left to list gives the whole listing, and the pages before k are counted.
 use Rattle.entry_listing.proofs as own
-use Prim.Native.Nat.{_+_, _-_, _≤_}
+use Prim.Native.Nat.{_+_, _-_}
 use mathlib.Core.Path.{_∙_, ap}
 use mathlib.Core.Bool.{Bool, cond}
 use native.Mathlib.Omega.{arith}

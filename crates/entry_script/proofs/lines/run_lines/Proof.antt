@@ -1,7 +1,6 @@
 -- `run_lines` meets its contract. The invariant: what is left to print gives all that is to be printed.
 use Rattle.entry_script.proofs as own
 use Prim.Native.Nat.{_-_, _≤_}
-use mathlib.Core.Path.{ap}
 use lib.ListN.{length}
 use Rattle.lend.specs.Tables.{alone}
 use Rattle.text.proofs.Writing.{wrote-length}

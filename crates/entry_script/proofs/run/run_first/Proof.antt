@@ -1,6 +1,6 @@
 -- `run_first` meets its contract: an input that is read whole, and the first part of a longer one.
 use Rattle.entry_script.proofs as own
-use Prim.Native.Nat.{ℕ, _≤_}
+use Prim.Native.Nat.{ℕ}
 use mathlib.Core.Path.{_≡_, sym}
 use native.Mathlib.Omega.{arith}
 use lib.ListN.{length, take}

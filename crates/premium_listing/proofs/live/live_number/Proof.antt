@@ -3,11 +3,8 @@
 use Rattle.premium_listing.proofs as own
 use Rattle.premium.specs.Sizes.{sizes}
 use own.Readable.{readable}
-use Prim.Native.Nat.{ℕ, _≤_}
-use mathlib.Core.Bool.{Bool}
 use lib.ListN.{length}
-use mathlib.Core.List.{List}
-use mathlib.Core.Path.{_≡_, _∙_}
+use mathlib.Core.Path.{_≡_}
 use native.Mathlib.Omega.{arith}
 use Rattle.listing.proofs.Live.{Numbering, number-none, number-turn, number-end}
 use Rattle.listing.proofs.Said.{number-fits}

@@ -3,7 +3,6 @@
 use Rattle.premium_listing.proofs as own
 use mathlib.Core.Path.{ap}
 use Rattle.lend.specs.Tables.{Tables}
-use Rattle.listing.specs.Read.{Answer}
 use borrow.Author.Needs.{needs}
 use own.read.refused.Statement.{statement}
 use own.read.refused.Tie as tie

@@ -1,7 +1,7 @@
 -- Made by tools/models.py from crates/entry_listing/proofs/write/put_listing/Proof.antt: change that file.
 -- `put_listing` meets its contract. The invariant: what is left to list gives the whole listing, and the pages before k are counted.
 use Rattle.premium_listing.proofs as own
-use Prim.Native.Nat.{_+_, _-_, _≤_}
+use Prim.Native.Nat.{_+_, _-_}
 use mathlib.Core.Path.{_∙_, ap}
 use mathlib.Core.Bool.{Bool, cond}
 use native.Mathlib.Omega.{arith}

@@ -1,7 +1,7 @@
 -- Made by tools/models.py from crates/entry_script/proofs/run/run_first/Proof.antt: change that file.
 -- `run_first` meets its contract: an input that is read whole, and the first part of a longer one.
 use Rattle.premium_script.proofs as own
-use Prim.Native.Nat.{ℕ, _≤_}
+use Prim.Native.Nat.{ℕ}
 use mathlib.Core.Path.{_≡_, sym}
 use native.Mathlib.Omega.{arith}
 use lib.ListN.{length, take}
