@@ -62,8 +62,6 @@ macro_rules! library {
             use super::{Numbers, Out};
             over_image!($prefix, start());
             test_of_soundness!($prefix, sound);
-            over_memory!($prefix, write_listing());
-            over_memory!($prefix, read_listing());
             over_image!($prefix, create(space));
             over_image!($prefix, delete(space));
             over_image!($prefix, unmap(space, page, rights));
@@ -85,3 +83,17 @@ library!(entry, "lend_entry_");
 library!(entry_counting, "counting_lend_entry_");
 library!(premium, "lend_premium_");
 library!(premium_counting, "counting_lend_premium_");
+
+/// The two calls on a listing, whose copies are not counted.
+macro_rules! on_listings {
+    ($module:ident, $prefix:literal) => {
+        pub mod $module {
+            use super::{Numbers, Out};
+            over_memory!($prefix, write_listing());
+            over_memory!($prefix, read_listing());
+        }
+    };
+}
+
+on_listings!(entry_listings, "lend_entry_");
+on_listings!(premium_listings, "lend_premium_");

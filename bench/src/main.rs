@@ -13,7 +13,7 @@ mod stack;
 /// The entry model.
 #[path = "."]
 mod entry {
-    pub use crate::library::{entry as proved, entry_counting as counting};
+    pub use crate::library::{entry as proved, entry_counting as counting, entry_listings as on_listings};
     pub const NAME: &str = "entry";
     pub const SPACES: usize = 8;
     pub const PAGES: usize = 32;
@@ -26,7 +26,7 @@ mod entry {
 /// The premium model.
 #[path = "."]
 mod premium {
-    pub use crate::library::{premium as proved, premium_counting as counting};
+    pub use crate::library::{premium as proved, premium_counting as counting, premium_listings as on_listings};
     pub const NAME: &str = "premium";
     pub const SPACES: usize = 16;
     pub const PAGES: usize = 64;

@@ -13,7 +13,7 @@ mod space;
 pub mod tables;
 mod time;
 
-use super::{counting, proved, LONG_LINES, NAME, PAGES, PLACES, SPACES};
+use super::{counting, on_listings, proved, LONG_LINES, NAME, PAGES, PLACES, SPACES};
 
 const SLOTS: usize = SPACES * PAGES;
 const PAGE_BYTES: u32 = 1024;

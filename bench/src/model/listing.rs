@@ -1,4 +1,4 @@
-//! A listing in plain Rust, written from document 02 (M-102): the board as text, and the text as a board. On the image of include/lend.h.
+//! A listing in plain Rust, written from document 02 (M-102), on the image of include/lend.h: the board as text, the text as a board.
 use super::image_plain::{start_over, Image};
 use super::plain::{sound, Link, Place, Slot, Tables};
 use super::{PAGES, PLACES, SLOTS, SPACES};

@@ -3,7 +3,7 @@ use super::image_plain::{image_of, IMAGE};
 use super::listing::{self, listing};
 use super::own::Board;
 use super::plain::{Link, Slot, Tables};
-use super::{proved, PAGES, SLOTS, SPACES};
+use super::{on_listings, PAGES, SLOTS, SPACES};
 use crate::clock::on_processor;
 use crate::library::{Numbers, OnImage, Out};
 use crate::random::Random;
@@ -78,14 +78,15 @@ fn times(calls: [OnImage; 2], pairs: &mut [Pair], seconds: f64) -> [f64; 2] {
 /// Prints the table; the seconds are for each row and each direction.
 pub fn print(random: &mut Random, seconds: f64) {
     println!("\nListings, nanoseconds per call, and per byte of the text:\n");
-    println!("| held pages | bytes | write: library | plain Rust | library / plain | a byte | read: library | plain Rust | library / plain | a byte |");
+    print!("| held pages | bytes | write: library | plain Rust | library / plain | library, a byte ");
+    println!("| read: library | plain Rust | library / plain | library, a byte |");
     println!("|---:|---:|---:|---:|---:|---:|---:|---:|---:|---:|");
     for held in [4, 2, 1].map(|part| (SLOTS - PAGES) / part) {
         let boards: Vec<Board> = (0..BOARDS).map(|_| board(random, held)).collect();
         let mut pairs: Vec<Pair> = boards.iter().map(|board| (image_of(board), listing(board))).collect();
         let bytes = pairs.iter().map(|(_, text)| text.len()).sum::<usize>() as f64 / BOARDS as f64;
         print!("| {held} | {bytes:.0} |");
-        for calls in [[proved::write_listing as OnImage, plain_write], [proved::read_listing, plain_read]] {
+        for calls in [[on_listings::write_listing as OnImage, plain_write], [on_listings::read_listing, plain_read]] {
             agree(calls, &pairs, random);
             let [library, plain] = times(calls, &mut pairs, seconds);
             print!(" {library:.0} | {plain:.0} | {:.2} | {:.2} |", library / plain, library / bytes);
