@@ -12,6 +12,7 @@ use Rattle.entry_listing.specs.declared.write.Written.{Written}
 abbrev pub answer : Read → Answer
 answer r = record { number = r .number; board = tables (r .board) }
 
+-- and back
 abbrev pub readOf : Answer → Read
 readOf a = record { number = a .number; board = boardOf (a .board) }
 
@@ -22,6 +23,7 @@ readOf-answer r = refl
 abbrev pub filled : Written → List ℕ → listing.Written
 filled w out = listing.written (w .number) (w .length) out
 
+-- and back
 abbrev pub writtenOf : listing.Written → Written
 writtenOf w = record { number = w .number; length = w .count }
 

@@ -43,6 +43,7 @@ unfolding unlines
 put-in-front b x xs [] e = let z : _≡_ {A = ℕ} 0 1 = cc in absurd (omega arith)
 put-in-front b x xs (l ∷ ls) e = ap (λ (t : List ℕ). b ∷ t) e
 
+-- a text that ends with a newline is its lines
 pub whole-lines : (s : List ℕ) → ended s ≡ true → unlines (lines s) ≡ s
 unfolding lines unlines
 whole-lines [] e = refl

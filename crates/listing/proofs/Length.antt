@@ -41,6 +41,7 @@ unfolding pagesFrom
 pages-length z f k zero = zero-le
 pages-length z f k (suc n) = rw length-append (omega (arith, slot-length (spaceOf z k) (pageIn z k) (f k), pages-length z f (suc k) n))
 
+-- of any board, sound or not
 pub listing-length : (z : Sizes) (b : Tables) → length (listingOf z b) ≤ 83 * (slotCount z - z .pages) + 32
 unfolding listingOf pagesListed
 listing-length z b =

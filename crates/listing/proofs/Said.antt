@@ -203,6 +203,7 @@ content-back z (line ∷ rest) c e = go (liveFields line .ok && leb (liveFields 
           fits = record { live-to = le; rows-fit = g .rows-fit; held-to = g .held-to };
         })
 
+-- what is found is what the text says
 pub said-back : (z : Sizes) (s : List ℕ) (c : Content) → said z s ≡ some c → Says z s c
 unfolding said
 said-back z s c e = go (ended s) refl e
@@ -265,6 +266,7 @@ module _ (z : Sizes) (small : Readable z) where
       ∙ sym (append-assoc (liveLine (c .live)) (rowLines (c .rows) ++ heldText (c .held)) (newline ∷ [])) in
       ap ended e ∙ ended-last front
 
+  -- and what a text says is found
   pub said-of : (s : List ℕ) (c : Content) → Says z s c → said z s ≡ some c
   unfolding said
   said-of s c h = ap (said z) (h .is-spelt) ∙ rw (spelt-ended c) (content-read c (h .fits))

@@ -23,15 +23,18 @@ pub record Row : Type 0 where
   pub at : ℕ
   pub rights : ℕ
 
+-- what a whole listing says
 pub record Content : Type 0 where
   pub live : ℕ
   pub rows : List Row
   pub held : ℕ
 
 -- ── spelt ────────────────────────────────────────────────────────────────
+-- a page line with its newline
 abbrev pub rowLine : Row → List ℕ
 rowLine r = pageLine (r .space) (r .page) (r .parent) (r .at) (r .rights)
 
+-- one line after the other
 unfoldable pub rowLines : List Row → List ℕ
 rowLines [] = []
 rowLines (r ∷ rest) = rowLine r ++ rowLines rest
@@ -41,6 +44,7 @@ unfoldable pub spelt : Content → List ℕ
 spelt c = liveLine (c .live) ++ (rowLines (c .rows) ++ heldLine (c .held))
 
 -- ── in their fields ──────────────────────────────────────────────────────
+-- the numbers of a page line
 pub record RowFits (z : Sizes) (r : Row) : Type 0 where
   pub space-from : 1 ≤ r .space
   pub space-to : r .space < z .spaces
@@ -50,10 +54,12 @@ pub record RowFits (z : Sizes) (r : Row) : Type 0 where
   pub rights-from : 1 ≤ r .rights
   pub rights-to : r .rights ≤ allRights
 
+-- every row does
 pub data AllFit (z : Sizes) : List Row → Type 0 where
   no-rows : AllFit z []
   one-row : {r : Row} {rest : List Row} → RowFits z r → AllFit z rest → AllFit z (r ∷ rest)
 
+-- and the first and the last line
 pub record Fits (z : Sizes) (c : Content) : Type 0 where
   pub live-to : c .live ≤ allLive z
   pub rows-fit : AllFit z (c .rows)
@@ -80,6 +86,7 @@ pub record Ordered (z : Sizes) (c : Content) : Type 0 where
   pub all-counted : length (c .rows) ≡ c .held
 
 -- ── its board ────────────────────────────────────────────────────────────
+-- what the page of a row keeps
 abbrev pub rowSlot : Row → Slot
 rowSlot r = lentSlot (r .parent) (r .at) (r .rights)
 

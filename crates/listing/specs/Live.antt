@@ -6,6 +6,7 @@ use lib.ListN.{replicate}
 use lib.Dec.{eqb}
 use Rattle.lend.specs.Sizes.{Sizes}
 
+-- the number of a list of flags, the flag of space 0 lowest
 unfoldable pub liveNumber : List Bool → ℕ
 liveNumber [] = 0
 liveNumber (is ∷ rest) = cond is 1 0 + 2 * liveNumber rest

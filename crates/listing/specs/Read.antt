@@ -21,6 +21,7 @@ use Rattle.text.specs.Lines.{lines}
 use Rattle.listing.specs.Live.{allLive}
 use Rattle.listing.specs.Content.{Row, Content, Says, Ordered, risingAbove, boardOf}
 
+-- the number, and the board that comes back with it
 pub record Answer : Type 0 where
   pub number : ℕ
   pub board : Tables
@@ -29,6 +30,7 @@ pub record Answer : Type 0 where
 abbrev pub refused : Sizes → ℕ → Answer
 refused z n = record { number = n; board = startBoard z }
 
+-- a board that was read
 abbrev pub accepted : Tables → Answer
 accepted b = record { number = 0; board = b }
 
@@ -41,19 +43,23 @@ pub record Reads (z : Sizes) (s : List ℕ) (a : Answer) : Type 0 where
   pub read : (c : Content) → Says z s c → Ordered z c → Sound z (boardOf z c) → a ≡ accepted (boardOf z c)
 
 -- ── computed ─────────────────────────────────────────────────────────────
--- one line each, without its newline
+-- the first line, without its newline, and so the others
 unfoldable pub liveFields : List ℕ → Fields
 liveFields line = oneField line (bytes "live=")
 
+-- the last line
 unfoldable pub heldFields : List ℕ → Fields
 heldFields line = oneField line (bytes "held=")
 
+-- a line between them
 unfoldable pub pageFields : List ℕ → Fields
 pageFields line = fiveFields line (bytes "space=") (bytes " page=") (bytes " parent=") (bytes " at=") (bytes " rights=")
 
+-- the row of such a line
 abbrev pub rowIn : Fields → Row
 rowIn f = record { space = f .first; page = f .second; parent = f .third; at = f .fourth; rights = f .fifth }
 
+-- it is well written, and each number is in its field
 unfoldable pub pageFits : Sizes → Fields → Bool
 pageFits z f =
     f .ok && leb 1 (f .first) && ltb (f .first) (z .spaces) && ltb (f .second) (z .pages) && ltb (f .third) (z .spaces)
@@ -70,23 +76,28 @@ pub record Rest : Type 0 where
   pub rows : List Row
   pub held : ℕ
 
+-- a row in front of them
 abbrev pub withRow : Row → Option Rest → Option Rest
 withRow r none = none
 withRow r (some t) = some (record { rows = r ∷ t .rows; held = t .held })
 
+-- the last line alone
 unfoldable pub heldLast : Sizes → Fields → Option Rest
 heldLast z f = cond (oneFits f (slotCount z - z .pages)) (some (record { rows = []; held = f .first })) none
 
+-- all of them, or nothing where one is malformed
 unfoldable pub restOf : Sizes → List (List ℕ) → Option Rest
 restOf z [] = none
 restOf z (line ∷ []) = heldLast z (heldFields line)
 restOf z (line ∷ more ∷ rest) =
     cond (pageFits z (pageFields line)) (withRow (rowIn (pageFields line)) (restOf z (more ∷ rest))) none
 
+-- the first line in front of them
 abbrev pub withLive : ℕ → Option Rest → Option Content
 withLive live none = none
 withLive live (some t) = some (record { live = live; rows = t .rows; held = t .held })
 
+-- all lines
 unfoldable pub contentOf : Sizes → List (List ℕ) → Option Content
 contentOf z [] = none
 contentOf z (line ∷ rest) =
@@ -96,6 +107,7 @@ contentOf z (line ∷ rest) =
 unfoldable pub ended : List ℕ → Bool
 ended s = eqb (getD s (length s - 1) 0) newline
 
+-- what a text says, if anything
 unfoldable pub said : Sizes → List ℕ → Option Content
 said z s = cond (ended s) (contentOf z (lines s)) none
 
@@ -103,6 +115,7 @@ said z s = cond (ended s) (contentOf z (lines s)) none
 unfoldable pub refusal : Bool → Bool → Bool → ℕ
 refusal formed ordered sound = firstOf ((17 when not formed) ∷ (18 when not ordered) ∷ (1 when not sound) ∷ [])
 
+-- the board where the number is 0, and the start board with any other
 abbrev pub byNumber : Sizes → Tables → ℕ → Answer
 byNumber z b n = cond (eqb n 0) (accepted b) (refused z n)
 
@@ -110,9 +123,11 @@ byNumber z b n = cond (eqb n 0) (accepted b) (refused z n)
 unfoldable pub judged : Sizes → Bool → Bool → Tables → Answer
 judged z formed ordered b = byNumber z b (refusal formed ordered (soundTest z b))
 
+-- 17 for a text that says nothing; else 18, 1 or its board
 abbrev pub answerBy : Sizes → Option Content → Answer
 answerBy z none = refused z 17
 answerBy z (some c) = judged z true (risingAbove z 0 (c .rows) && eqb (length (c .rows)) (c .held)) (boardOf z c)
 
+-- what the reader answers
 unfoldable pub reading : Sizes → List ℕ → Answer
 reading z s = answerBy z (said z s)

@@ -15,6 +15,7 @@ pub record Written : Type 0 where
   pub count : ℕ
   pub held : List ℕ
 
+-- these three
 abbrev pub written : ℕ → ℕ → List ℕ → Written
 written number count held = record { number = number; count = count; held = held }
 

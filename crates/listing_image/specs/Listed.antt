@@ -16,6 +16,7 @@ pub record Listed : Type 0 where
   pub text : List ℕ
   pub out : List ℕ
 
+-- these three
 abbrev pub listed : ℕ → List ℕ → List ℕ → Listed
 listed number text out = record { number = number; text = text; out = out }
 
@@ -27,9 +28,10 @@ listedBy w = listed (w .number) (w .held) (fourOf (w .count) 0)
 unfoldable pub writeAnswer : Sizes → List ℕ → List ℕ → Listed
 writeAnswer z image text = listedBy (writing z (boardFrom z image) text)
 
--- any image of the right length is written over, with a refusal by the start board; another length is 1, and nothing is written
+-- any image of the right length is written over, with a refusal by the start board
 abbrev pub readLeft : Answer → Left
 readLeft a = left (a .number) (imageOf (a .board)) [] (fourOf 0 0)
 
+-- an image of another length is 1, and nothing is written
 unfoldable pub readAnswer : Sizes → List ℕ → List ℕ → Left
 readAnswer z text image = cond (eqb (length image) (imageBytes z)) (readLeft (reading z text)) (left 1 image [] (fourOf 0 0))

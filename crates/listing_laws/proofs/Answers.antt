@@ -18,6 +18,7 @@ use Rattle.listing.specs.Content.{Content, Says, Ordered, risingAbove, boardOf}
 use Rattle.listing.specs.Read.{Answer, refused, accepted, Reads, said, refusal, byNumber, judged, answerBy, reading}
 use Rattle.listing.proofs.Said.{Readable, said-of, said-back}
 
+-- the order, as the reader tests it
 abbrev pub orderTest : Sizes → Content → Bool
 orderTest z c = risingAbove z 0 (c .rows) && eqb (length (c .rows)) (c .held)
 
@@ -39,6 +40,7 @@ by-content : (z : Sizes) → Readable z → (s : List ℕ) (c : Content) → Say
 unfolding reading
 by-content z small s c h = ap (answerBy z) (said-of z small s c h)
 
+-- the reader answers, for any bytes, what is to be answered
 pub reads : (z : Sizes) → Readable z → (s : List ℕ) → Reads z s (reading z s)
 unfolding refusal judged reading
 reads z small s = record {
@@ -65,6 +67,7 @@ pub record Taken (z : Sizes) (s : List ℕ) (b : Tables) : Type 0 where
   pub sound : Sound z b
   pub board-is : b ≡ boardOf z content
 
+-- and every accepted text is such
 pub taken : (z : Sizes) (s : List ℕ) (b : Tables) → reading z s ≡ accepted b → Taken z s b
 unfolding reading refusal judged
 taken z s b e = go (said z s) refl e

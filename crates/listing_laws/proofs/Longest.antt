@@ -41,6 +41,7 @@ decimal-rise m n h = digits-rise 10 m n h
 unfoldable pub longestLine : Sizes → ℕ → ℕ
 longestLine z k = length (pageLine (spaceOf z k) (pageIn z k) (z .spaces - 1) (z .pages - 1) allRights)
 
+-- of n pages from page k on
 unfoldable pub longestLines : Sizes → ℕ → ℕ → ℕ
 longestLines z k zero = 0
 longestLines z k (suc n) = longestLine z k + longestLines z (suc k) n

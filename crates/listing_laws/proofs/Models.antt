@@ -74,6 +74,7 @@ premium-readable = record {
   slots-small = omega arith;
 }
 
+-- all of it, of both models
 pub entry-listed : Listed entry
 entry-listed = listed entry entry-readable
 

@@ -29,17 +29,21 @@ fullSlot z k =
     (cond (eqb (pageIn z k) (z .pages - 1) && leb (z .spaces - 2) (spaceOf z k)) (lentSlot 0 (z .pages - 1) allRights)
     (cond (eqb (spaceOf z k) (z .spaces - 1)) (lentSlot (z .spaces - 2) (z .pages - 1) allRights) (lentSlot (z .spaces - 1) (z .pages - 1) allRights)))
 
+-- every page held, every space live
 unfoldable pub full : Sizes → Tables
 full z = record { slots = tabulate (slotCount z) (fullSlot z); live = replicate (z .spaces) true; places = replicate (z .places) emptyPlace; next = 0 }
 
+-- both are sound, by their tests
 pub entry-full : Sound entry (full entry)
 unfolding full placeFor cached emptyIn line frame every some count tabulateFrom less within slotTest pagesTest cacheTest soundTest
 entry-full = test-sound entry (full entry) tt
 
+-- its listing has as many bytes as entry-longest allows
 pub entry-reached : length (listingOf entry (full entry)) ≡ 8908
 unfolding full every some count tabulateFrom liveLine pageLine heldLine write.entry decimal decimalIn liveNumber slotLine pagesFrom pagesListed heldOutside listingOf
 entry-reached = refl
 
+-- and as premium-longest does
 pub premium-reached : length (listingOf premium (full premium)) ≡ 39612
 unfolding full every some count tabulateFrom liveLine pageLine heldLine write.entry decimal decimalIn liveNumber slotLine pagesFrom pagesListed heldOutside listingOf
 premium-reached = refl

@@ -159,7 +159,7 @@ rows-rise z f (suc n) k m h = go (held (f k)) (rows-rise z f n (suc k) k (omega 
     go true a c = rw (key-of-page z k) (and-i (ltb m k) (risingAbove z k (rowsFrom z f (suc k) n)) (lt→ltb m k h) a)
     go false a c = c
 
--- a cleared cache is sound beside any table
+-- every place of a cleared cache is empty
 cleared-place : (n i : ℕ) → placeAt (replicate n emptyPlace) i ≡ emptyPlace
 cleared-place n i = go (decLt i n)
   where
@@ -167,6 +167,7 @@ cleared-place n i = go (decLt i n)
     go (yes h) = getD-replicate n i emptyPlace emptyPlace h
     go (no h) = List·getD-eq-default (replicate n emptyPlace) emptyPlace {n = i} (omega (arith, length-replicate n emptyPlace))
 
+-- a sound board with its cache emptied is sound
 pub cleared-sound : (z : Sizes) → 1 ≤ z .places → (b : Tables) → Sound z b → Sound z (cleared z b)
 cleared-sound z one b w = record {
   shape = record { slots-long = w .shape .slots-long; live-long = w .shape .live-long; places-long = length-replicate (z .places) emptyPlace };

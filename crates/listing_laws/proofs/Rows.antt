@@ -23,6 +23,7 @@ use Rattle.listing.proofs.Said.{key-below}
 use Rattle.listing.specs.Listing.{linkLine, slotLine, pageIn, pagesFrom}
 use Rattle.listing.specs.Content.{Row, rowLines, RowFits, AllFit, no-rows, one-row, rowKey, risingAbove, rowSlot, placed}
 
+-- the space and the page that a line names as the parent
 abbrev pub parentSpace : Link → ℕ
 parentSpace Nothing = 0
 parentSpace (Frame i) = 0
