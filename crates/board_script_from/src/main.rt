@@ -1,5 +1,5 @@
-// board-script --from for this model: runs the script on standard input from the board of the listing that file descriptor 3 gives, and
-// writes its output to standard output.
+// board-script --from for this model: runs the script on standard input, from the board of the listing that a file descriptor of its
+// own gives, and writes its output to standard output.
 use entry_script::run::run_from;
 ghost use Prim.Native.Nat.{_≤_};
 ghost use mathlib.Core.Path.{_≡_};
@@ -10,8 +10,8 @@ ghost use Rattle.script.specs.From.{fromOutput};
 ghost use Rattle.script.specs.Bound.{outputBound};
 ghost use Rattle.entry.specs.Sizes.{sizes};
 
-// The file descriptor that gives the listing.
-const LISTING: i32 = 3;
+// The file descriptor that gives the listing: none that a shell has open by habit.
+const LISTING: i32 = 42;
 
 // The length of the output's buffer.
 const ROOM: usize = 1500000;
