@@ -87,7 +87,7 @@ abbrev pub oneCached : Sizes → Tables
 oneCached z = record { slots = slotsK z; live = K z .live; places = set (K z .places) 0 (lastPlace z); next = 0 }
 
 abbrev pub translated : ℕ → Bool → Reply
-translated a h = record { number = 0; emptied = 0; address = a; hit = h; byte = 0 }
+translated a h = record { number = 0; emptied = 0; address = a; hit = h; links = 1; byte = 0 }
 
 unfoldable pub table : List Row
 table =

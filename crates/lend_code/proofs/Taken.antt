@@ -149,7 +149,7 @@ module _ (z : Sizes) (b : Tables) (sound : Sound z b) (new : List Slot) (u v : �
   pub taken-is : takenOf z b new u v ≡ record { reply = emptiedReply (b .slots) new; state = alone (withSlots z b new (λ k. eqb k (key z u v))) }
   unfolding takenOf
   taken-is = λ i. record {
-    reply = record { number = 0; emptied = lost-are i; address = 0; hit = false; byte = 0 };
+    reply = record { number = 0; emptied = lost-are i; address = 0; hit = false; links = 0; byte = 0 };
     state = record {
       board = record { slots = new; live = b .live; places = places-are i; next = b .next };
       memory = alone b .memory;

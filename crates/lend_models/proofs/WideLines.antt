@@ -5,18 +5,19 @@ use mathlib.Core.List.{List, [], _∷_, map}
 use Prim.Native.Nat.{ℕ, zero, suc, _≤_, _<_}
 use native.Mathlib.Omega.{arith}
 use lib.Dec.{T, eqb, eqb→eq, T-not}
-use lib.ListN.{length}
+use lib.ListN.{length, length-map}
 use borrow.Author.Tests.{eq-eqb, ne-eqb}
 use Rattle.lend.specs.declared.Link.{Link}
 use Rattle.lend.specs.declared.Link.the-variants.{Nothing, Frame, Page}
 use Rattle.lend.specs.declared.Slot.{Slot}
 use Rattle.lend.specs.Sizes.{Sizes, slotCount, key, spaceOf}
 use Rattle.lend.specs.Lists.{any, member}
-use Rattle.lend.specs.Slots.{slotAt}
-use Rattle.lend.specs.Line.{endOf, lineOf, onLine, below, meets, frame, frameOf}
+use Rattle.lend.specs.Slots.{slotAt, held}
+use Rattle.lend.specs.Line.{endOf, lineOf, onLine, below, meets, frame, frameOf, linksOf}
 use Rattle.lend.specs.Sound.{SoundPages}
 use Rattle.lend_basics.proofs.Bools.{same-test, or-false}
 use Rattle.lend_sound.proofs.Lines.{line-unique, the-line, line-fits, line-top, below-top, frame-fuel}
+use Rattle.lend_sound.proofs.Links.{links-are-pages}
 use Rattle.lend_models.specs.Embedding.{Fits, shared, wideLive}
 use Rattle.lend_models.proofs.Wide.{widen, widen-same, widen-shared, space-of-widened, length-wide-live}
 use Rattle.lend_models.proofs.WidePages.{wideTable, slot-widened, lender-widened, is-line-widened, rest-top, wide-pages}
@@ -94,6 +95,12 @@ module _ (z w : Sizes) (fits : Fits z w) (some-page : 1 ≤ z .pages) (live : Li
     where
       fit : length (lineOf z (slotAt b) k) ≤ z .spaces
       fit = line-fits z live (slotAt b) len sound k
+
+  -- and a held page has as many links to it
+  pub links-widened : (k : ℕ) → T (held (slotAt b k)) → linksOf w (wideTable z w b) (widen z w k) ≡ linksOf z (slotAt b) k
+  links-widened k h =
+      links-are-pages w (wideLive z w live) (wideTable z w b) long-wide sound-wide (widen z w k) (rw (slot-widened z w fits some-page live b len long sound k) h)
+      ∙ (ap length (line-widened k) ∙ (length-map (lineOf z (slotAt b) k) (widen z w) ∙ sym (links-are-pages z live (slotAt b) len sound k h)))
 
   -- ── pages that are not shared ──────────────────────────────────────────
   -- such a page is alone on its line
