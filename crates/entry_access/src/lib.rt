@@ -16,7 +16,7 @@ pub struct Translated {
     pub number: u32,
     pub address: u32,
     pub hit: bool,
-    pub links: u8,
+    pub links: u32,
 }
 
 // What load answers: the number, the byte, and the next board.

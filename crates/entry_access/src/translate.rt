@@ -37,6 +37,6 @@ pub fn translate(b: Board, space: u32, address: u32, rights: u32) -> Translated
         number: 0,
         address: at as u32,
         hit,
-        links: seen.links,
+        links: seen.links as u32,
     }
 }

@@ -30,7 +30,7 @@ byCall z st (some c) = step z st c
 unfoldable pub judged : Sizes → State → Request → Outcome
 judged z st q = byCall z st (callOf q)
 
--- what a request says: translate its address and hit, every other call what it emptied, and a malformed line nothing more
+-- what a request says: translate its address, hit and links, every other call what it emptied, and a malformed line nothing more
 abbrev pub saidOf : Request → Reply → Said
 saidOf (Create space) r = Emptied (r .number) (r .emptied)
 saidOf (Delete space) r = Emptied (r .number) (r .emptied)
@@ -38,7 +38,7 @@ saidOf (Unmap space page rights) r = Emptied (r .number) (r .emptied)
 saidOf (Flush space page rights) r = Emptied (r .number) (r .emptied)
 saidOf (Map from page to at rights) r = Emptied (r .number) (r .emptied)
 saidOf (Grant from page to at rights) r = Emptied (r .number) (r .emptied)
-saidOf (Translate space address rights) r = Translated (r .number) (r .address) (r .hit)
+saidOf (Translate space address rights) r = Translated (r .number) (r .address) (r .hit) (r .links)
 saidOf Malformed r = Garbled
 
 -- what a line says, and the state after it
@@ -61,7 +61,7 @@ unfoldable pub saidLine : ℕ → Said → List ℕ
 saidLine n Silent = []
 saidLine n Garbled = malformedLine n
 saidLine n (Emptied number emptied) = answerLine n number emptied
-saidLine n (Translated number address hit) = translationLine n number address hit
+saidLine n (Translated number address hit links) = translationLine n number address hit links
 
 -- ── the end ──────────────────────────────────────────────────────────────
 -- the line of a held page by its link; the parent of a frame's page is named 0, and such pages are in space 0 only
