@@ -63,9 +63,9 @@ bothEmpty z = withK z (put z 2 3 emptySlot (put z 3 1 emptySlot (slotsK z)))
 abbrev pub lessExecute : Sizes → Tables
 lessExecute z = withK z (put z 1 0 (lentSlot 0 5 6) (slotsK z))
 
--- (4,0) has 2 from (1,0), (2,3) keeps 4 and (3,1) is empty
+-- (4,0) has 2 from (1,0), (2,3) and (3,1) are empty
 abbrev pub handedOn : Sizes → Tables
-handedOn z = withK z (put z 4 0 (lentSlot 1 0 2) (put z 2 3 (lentSlot 1 0 4) (put z 3 1 emptySlot (slotsK z))))
+handedOn z = withK z (put z 4 0 (lentSlot 1 0 2) (put z 2 3 emptySlot (put z 3 1 emptySlot (slotsK z))))
 
 -- space 2 is not live, its pages and (3,1) are empty
 abbrev pub deleted : Sizes → Tables
@@ -113,8 +113,8 @@ table =
     ∷ row (Map 1 0 2 8 4) 15 0 K
     -- 9
     ∷ row (Map 1 0 2 3 4) 0 1 oneCut
-    -- 10
-    ∷ row (Grant 2 3 4 0 2) 0 1 handedOn
+    -- 10, as M-103 has it
+    ∷ row (Grant 2 3 4 0 2) 0 2 handedOn
     -- 11
     ∷ row (Delete 2) 0 3 deleted
     ∷ []
