@@ -34,7 +34,8 @@ lost-below : (z : Sizes) (b : Tables) → Sound z b → (s p u v r : ℕ) → Le
     → (k : ℕ) → T (onLine z (tableOf b) k g) → T (not (eqb k (key z u v)))
     → bitAnd (slotAt (flushed z g d (mapped z s p (key z u v) r (b .slots))) k .rights) d ≡ 0
 lost-below z b sound s p u v r m g d small k on other =
-    ap (λ (x : Slot). bitAnd (x .rights) d) (flushed-at z (b .live) one (sound .shape .live-long) pages g d k) ∙ go (held (slotAt one k)) refl
+    ap (λ (x : Slot). bitAnd (x .rights) d) (flushed-at z (b .live) one (sound .shape .live-long) pages g d k)
+    ∙ go (held (slotAt one k)) refl
   where
     one : List Slot
     one = mapped z s p (key z u v) r (b .slots)
@@ -46,7 +47,8 @@ lost-below z b sound s p u v r m g d small k on other =
     go true e =
         let l = mapped-line z b sound s p u v r m k other (rw e tt) in
         let o : T (onLine z (slotAt one) k g) = subst (λ (q : List ℕ). T (member g q)) (sym l) on in
-        rw (is-true (onLine z (slotAt one) k g) o) (less-apart (slotAt one k .rights) d (rights-small z (b .live) (slotAt one) pages k) small)
+        rw (is-true (onLine z (slotAt one) k g) o)
+        (less-apart (slotAt one k .rights) d (rights-small z (b .live) (slotAt one) pages k) small)
     go false e =
         let n : slotAt one k ≡ emptySlot = not-held z (b .live) (slotAt one) pages k (rw e tt) in
         ap (λ (x : Slot). bitAnd (less (x .rights) (cond (onLine z (slotAt one) k g) d 0)) d) n
@@ -63,8 +65,8 @@ grant-withdraws z st from page to at rights e k under other =
     let a = handed-on z (st .board) sound from page to at rights (fine .lendable) (fine .giver-out) in
     let g : ℕ = key z from page in
     rw (accepted z st (Grant from page to at rights) e, a .is)
-    (lost-below z (st .board) sound (a .parent-space) (a .parent-page) to at rights (a .lendable) g (giverLoses rights) (a .loss-small) k
-    (and-l (onLine z (tableOf (st .board)) k g) (not (eqb k g)) under) (differ k (key z to at) other))
+    (lost-below z (st .board) sound (a .parent-space) (a .parent-page) to at rights (a .lendable) g (giverLoses rights) (a .loss-small)
+    k (and-l (onLine z (tableOf (st .board)) k g) (not (eqb k g)) under) (differ k (key z to at) other))
 
 -- after any list of calls whatever, a page that translates, hit or miss, does so to the frame at the end of its line on the board as it is
 pub translates-now : (z : Sizes) (st : State) (cs : List Call) (space address rights : ℕ) → number z (steps z st cs) (Translate space address rights) ≡ 0

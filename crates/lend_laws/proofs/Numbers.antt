@@ -84,7 +84,7 @@ holds-first (c ∷ cs) b n h t none =
     go rest false q (inl w) = let f : T false = rw q at (and-r (eqb (c .number) n) (c .holds) w) in absurd f
     go rest false q (inr w) = rw q (rest w)
 
--- so the first case that holds has the number n, which is not 0, just where the case of n holds and no case of a smaller number does
+-- so the first case that holds has the number n, not 0, just where the case of n holds and no case of a smaller number does
 first-exactly : (cs : List Case) → T (risesFrom 0 cs) → (n : ℕ) → 1 ≤ n → (firstOf cs ≡ n) ↔ (T (holdsAt n cs) × NoneBefore n cs)
 first-exactly cs rise n l = (first-holds cs 0 n rise l, λ r. holds-first cs 0 n rise (r .0) (r .1))
 
@@ -123,6 +123,7 @@ module _ (z : Sizes) (st : State) where
 
   -- and so it is with the number that it gives
   pub range-number-exactly : (c : RangeCall) (n : ℕ) → 1 ≤ n
-      → (rangeNumber z st c ≡ n) ↔ (T (holdsAt n (withFirst z st (rangeCases z st c))) × NoneBefore n (withFirst z st (rangeCases z st c)))
+      → (rangeNumber z st c ≡ n)
+      ↔ (T (holdsAt n (withFirst z st (rangeCases z st c))) × NoneBefore n (withFirst z st (rangeCases z st c)))
   unfolding rangeNumber
   range-number-exactly c = first-exactly (withFirst z st (rangeCases z st c)) (range-numbers-rise c)

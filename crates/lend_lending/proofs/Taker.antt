@@ -25,7 +25,9 @@ use Rattle.lend_lending.proofs.Grant.{HandedOn}
 
 -- a slot that came out of another by a cut, and is held, has its link
 cut-link : (s old : Slot) (d : ℕ) → s ≡ cut d old → T (held s) → s .link ≡ old .link
-cut-link s old d e h = let g : T (held (cut d old)) = rw e at h in ap (λ (x : Slot). x .link) e ∙ left-link (less (old .rights) d) (old .link) g
+cut-link s old d e h =
+    let g : T (held (cut d old)) = rw e at h in
+    ap (λ (x : Slot). x .link) e ∙ left-link (less (old .rights) d) (old .link) g
 
 -- a slot that came out of another by a cut, and is held, came out of a held one
 cut-held : (s old : Slot) (d : ℕ) → s ≡ cut d old → T (held s) → T (held old)
@@ -33,7 +35,8 @@ cut-held s old d e h = rw (cut-link s old d e h) at h
 
 -- ── behind the other pages ───────────────────────────────────────────────
 -- A sound table f became g. Pages that are held now and are no taker have their old links, and what was below a taker is empty.
-module _ (z : Sizes) (live more : List Bool) (f g : Table) (len : length live ≡ z .spaces) (before : SoundPages z live f) (after : SoundPages z more g)
+module _ (z : Sizes) (live more : List Bool) (f g : Table)
+    (len : length live ≡ z .spaces) (before : SoundPages z live f) (after : SoundPages z more g)
     (taker : ℕ → Bool) (links : (k : ℕ) → T (not (taker k)) → T (held (g k)) → g k .link ≡ f k .link)
     (cleared : (t k : ℕ) → T (taker t) → T (below z f k t) → g k ≡ emptySlot) where
   Stays : ℕ → Type 0
@@ -50,20 +53,16 @@ module _ (z : Sizes) (live more : List Bool) (f g : Table) (len : length live �
     where
       go : (b : Bool) → taker (key z s p) ≡ b → T (not b)
       go true q =
-          let under : T (below z f k (key z s p)) = rw (below-up z live f len before k s p (key z s p) e) (line-self z live f len before (key z s p)) in
-          let gone : g k ≡ emptySlot = cleared (key z s p) k (rw q tt) under in
+          let parent : ℕ = key z s p in
+          let under : T (below z f k parent) = rw (below-up z live f len before k s p parent e) (line-self z live f len before parent) in
+          let gone : g k ≡ emptySlot = cleared parent k (rw q tt) under in
           rw gone at (h .1)
       go false q = tt
 
-  -- so they have the lines they had
-  pub line-behind : (k : ℕ) → T (not (taker k)) → T (held (g k)) → lineOf z g k ≡ lineOf z f k
+  -- so they have the lines and the frames they had
+  pub same-behind : (k : ℕ) → T (not (taker k)) → T (held (g k)) → (lineOf z g k ≡ lineOf z f k) × (frameOf z g k ≡ frameOf z f k)
   unfolding Stays
-  line-behind k n h = line-same z f g Stays same up (z .spaces) k (n, h)
-
-  -- and the frames
-  pub frame-behind : (k : ℕ) → T (not (taker k)) → T (held (g k)) → frameOf z g k ≡ frameOf z f k
-  unfolding Stays
-  frame-behind k n h = frame-same z f g Stays same up (z .spaces) k (n, h)
+  same-behind k n h = (line-same z f g Stays same up (z .spaces) k (n, h), frame-same z f g Stays same up (z .spaces) k (n, h))
 
 -- ── map ──────────────────────────────────────────────────────────────────
 module _ (z : Sizes) (b : Tables) (sound : Sound z b) (s p u v r : ℕ) (m : Lendable z (b .live) (tableOf b) s p u v r) where
@@ -75,7 +74,11 @@ module _ (z : Sizes) (b : Tables) (sound : Sound z b) (s p u v r : ℕ) (m : Len
   pub one-sound : SoundPages z (b .live) (slotAt (mapped z s p (key z u v) r (b .slots)))
   one-sound = mapped-sound z (b .live) (b .slots) (sound .shape .live-long) (sound .shape .slots-long) (sound .pages) s p u v r m
 
-  other : (k : ℕ) → T (not (eqb k (key z u v))) → slotAt one k ≡ cut (amount z (b .live) (b .slots) (sound .shape .live-long) (sound .shape .slots-long) (sound .pages) s p u v r m k) (tableOf b k)
+  -- what the flush of the taker takes
+  abbrev taken : ℕ → ℕ
+  taken = amount z (b .live) (b .slots) (sound .shape .live-long) (sound .shape .slots-long) (sound .pages) s p u v r m
+
+  other : (k : ℕ) → T (not (eqb k (key z u v))) → slotAt one k ≡ cut (taken k) (tableOf b k)
   other k n =
       mapped-other z (b .live) (b .slots) (sound .shape .live-long) (sound .shape .slots-long) (sound .pages) s p u v r m k
       (λ e. T-not (eqb k (key z u v)) n (rw e (eqb-refl (key z u v))))
@@ -98,9 +101,9 @@ module _ (z : Sizes) (b : Tables) (sound : Sound z b) (s p u v r : ℕ) (m : Len
   -- and its line
   pub mapped-line : (k : ℕ) → T (not (eqb k (key z u v))) → T (held (slotAt (mapped z s p (key z u v) r (b .slots)) k))
       → lineOf z (slotAt (mapped z s p (key z u v) r (b .slots))) k ≡ lineOf z (tableOf b) k
-  mapped-line =
-      line-behind z (b .live) (b .live) (tableOf b) (slotAt one) (sound .shape .live-long) (sound .pages) one-sound (λ k. eqb k (key z u v))
-      mapped-link (λ t k e h. mapped-below k (rw (eqb→eq t (key z u v) e) at h))
+  mapped-line k n h =
+      same-behind z (b .live) (b .live) (tableOf b) (slotAt one) (sound .shape .live-long) (sound .pages) one-sound
+      (λ j. eqb j (key z u v)) mapped-link (λ t j e i. mapped-below j (rw (eqb→eq t (key z u v) e) at i)) k n h .0
 
   -- ── and then a flush of some page ──────────────────────────────────────
   module _ (g d : ℕ) where
@@ -112,7 +115,8 @@ module _ (z : Sizes) (b : Tables) (sound : Sound z b) (s p u v r : ℕ) (m : Len
     then k = flushed-at z (b .live) one (sound .shape .live-long) one-sound g d k
 
     -- what stood below the taker is empty
-    pub handed-below : (k : ℕ) → T (below z (tableOf b) k (key z u v)) → slotAt (flushed z g d (mapped z s p (key z u v) r (b .slots))) k ≡ emptySlot
+    pub handed-below : (k : ℕ) → T (below z (tableOf b) k (key z u v))
+        → slotAt (flushed z g d (mapped z s p (key z u v) r (b .slots))) k ≡ emptySlot
     handed-below k h = then k ∙ (ap (cut (loss k)) (mapped-below k h) ∙ cut-empty (loss k))
 
     -- a held page other than the taker has its link
@@ -123,11 +127,15 @@ module _ (z : Sizes) (b : Tables) (sound : Sound z b) (s p u v r : ℕ) (m : Len
 -- ── grant ────────────────────────────────────────────────────────────────
 module _ (z : Sizes) (b : Tables) (sound : Sound z b) (s p u v r : ℕ) (a : HandedOn z b s p u v r) where
   -- what stood below the taker is empty
-  pub granted-below : (k : ℕ) → T (below z (tableOf b) k (key z u v)) → slotAt (granted z (key z s p) (key z u v) r (b .slots)) k ≡ emptySlot
+  pub granted-below : (k : ℕ) → T (below z (tableOf b) k (key z u v))
+      → slotAt (granted z (key z s p) (key z u v) r (b .slots)) k ≡ emptySlot
   granted-below k h =
-      ap (λ (l : List Slot). slotAt l k) (a .is) ∙ handed-below z b sound (a .parent-space) (a .parent-page) u v r (a .lendable) (key z s p) (giverLoses r) k h
+      ap (λ (l : List Slot). slotAt l k) (a .is)
+      ∙ handed-below z b sound (a .parent-space) (a .parent-page) u v r (a .lendable) (key z s p) (giverLoses r) k h
 
   -- a held page other than the taker has its link
   pub granted-link : (k : ℕ) → T (not (eqb k (key z u v))) → T (held (slotAt (granted z (key z s p) (key z u v) r (b .slots)) k))
       → slotAt (granted z (key z s p) (key z u v) r (b .slots)) k .link ≡ tableOf b k .link
-  granted-link = rw (a .is) (handed-link z b sound (a .parent-space) (a .parent-page) u v r (a .lendable) (key z s p) (giverLoses r))
+  granted-link =
+      rw (a .is)
+      (handed-link z b sound (a .parent-space) (a .parent-page) u v r (a .lendable) (key z s p) (giverLoses r))

@@ -10,7 +10,7 @@ use Rattle.lend.specs.declared.Slot.{Slot}
 use Rattle.lend.specs.Sizes.{Sizes, key, pageBytes}
 use Rattle.lend.specs.Slots.{Table, emptySlot, slotAt, held}
 use Rattle.lend.specs.Tables.{State, tableOf}
-use Rattle.lend.specs.Line.{below}
+use Rattle.lend.specs.Line.{lineOf, below, frameOf}
 use Rattle.lend.specs.Sound.{Sound}
 use Rattle.lend.specs.Translate.{pageAt, physical, looked}
 use Rattle.lend.specs.Calls.{Call, Create, Delete, Unmap, Flush, Map, Grant, Translate, Load, Store, number, boardAfter, report, step, steps}
@@ -21,7 +21,7 @@ use Rattle.lend_laws.proofs.Emptied.{looked-slots}
 use Rattle.lend_laws.proofs.Keeps.{Plain, withdrawn-link, accepted-withdrawn}
 use Rattle.lend_lending.proofs.Map.{map-fine}
 use Rattle.lend_lending.proofs.Grant.{HandedOn, grant-fine, handed-on}
-use Rattle.lend_lending.proofs.Taker.{line-behind, frame-behind, mapped-below, mapped-link, granted-below, granted-link}
+use Rattle.lend_lending.proofs.Taker.{same-behind, mapped-below, mapped-link, granted-below, granted-link}
 use Rattle.lend_lending.proofs.Insert.{translate-fine}
 use Rattle.lend_lending.proofs.Always.{step-sound}
 use Rattle.lend_touch.specs.Anew.{isTaker, lendsAnew, neverAnew, Kept}
@@ -49,7 +49,8 @@ module _ (z : Sizes) (st : State) where
       mapped-below z (st .board) (was-sound (Map s p u v r) e) s p u v r (map-fine z st s p u v r e .lendable) k
       (rw (eqb→eq t (key z u v) y) at h)
   cleared (Grant s p u v r) e t k y h =
-      granted-below z (st .board) (was-sound (Grant s p u v r) e) s p u v r (by-grant s p u v r e) k (rw (eqb→eq t (key z u v) y) at h)
+      granted-below z (st .board) (was-sound (Grant s p u v r) e) s p u v r (by-grant s p u v r e) k
+      (rw (eqb→eq t (key z u v) y) at h)
   cleared (Translate s a d) e t k y h = absurd y
   cleared (Load s a) e t k y h = absurd y
   cleared (Store s a x) e t k y h = absurd y
@@ -86,14 +87,19 @@ module _ (z : Sizes) (some-page : 1 ≤ z .pages) (st : State) where
   accepted-kept c e k n h = record {
     was-held = rw (links c e k n h) at h;
     same-link = links c e k n h;
-    same-line = line-behind z (st .board .live) (boardAfter z (st .board) c .live) (tableOf (st .board)) (tableOf (boardAfter z (st .board) c))
-        (was-sound z st c e .shape .live-long) (was-sound z st c e .pages) (is-sound .pages) (isTaker z c) (links c e) (cleared z st c e) k n h;
-    same-frame = frame-behind z (st .board .live) (boardAfter z (st .board) c .live) (tableOf (st .board)) (tableOf (boardAfter z (st .board) c))
-        (was-sound z st c e .shape .live-long) (was-sound z st c e .pages) (is-sound .pages) (isTaker z c) (links c e) (cleared z st c e) k n h;
+    same-line = behind .0;
+    same-frame = behind .1;
   }
     where
       is-sound : Sound z (boardAfter z (st .board) c)
       is-sound = rw (accepted z st c e) at (step-sound z some-page st (was-sound z st c e) c)
+
+      behind : (lineOf z (tableOf (boardAfter z (st .board) c)) k ≡ lineOf z (tableOf (st .board)) k)
+          × (frameOf z (tableOf (boardAfter z (st .board) c)) k ≡ frameOf z (tableOf (st .board)) k)
+      behind =
+          same-behind z (st .board .live) (boardAfter z (st .board) c .live) (tableOf (st .board)) (tableOf (boardAfter z (st .board) c))
+          (was-sound z st c e .shape .live-long) (was-sound z st c e .pages) (is-sound .pages)
+          (isTaker z c) (links c e) (cleared z st c e) k n h
 
 -- ── every call ───────────────────────────────────────────────────────────
 -- what stood below a page is empty after a call that lends the page anew
@@ -124,19 +130,22 @@ held-keeps-line z some-page st c k n h = go (ℕ-discrete (number z st c) 0)
     go : Dec (number z st c ≡ 0) → Kept z (tableOf (st .board)) (tableOf (step z st c .state .board)) k
     go (yes e) =
         rw (accepted z st c e)
-        (accepted-kept z some-page st c e k (rw (eq-eqb (number z st c) 0 e, and-true (isTaker z c k)) at n) (rw (accepted z st c e) at h))
+        (accepted-kept z some-page st c e k (rw (eq-eqb (number z st c) 0 e, and-true (isTaker z c k)) at n)
+        (rw (accepted z st c e) at h))
     go (no e) = rw (refused z st c e) (nothing-moved z (tableOf (st .board)) k (rw (refused z st c e) at h))
 
 -- ── every list of calls ──────────────────────────────────────────────────
--- a page that is held after a list of calls of which none lent it anew was held all along, with the same link, line and frame behind it
+-- a page that is held after a list of calls, of which none lent it anew, was held before it, with the same link, line and frame
 pub never-another-frame : (z : Sizes) → 1 ≤ z .pages → (st : State) (cs : List Call) (k : ℕ) → T (neverAnew z st cs k)
     → T (held (tableOf (steps z st cs .board) k)) → Kept z (tableOf (st .board)) (tableOf (steps z st cs .board)) k
 unfolding steps neverAnew
 never-another-frame z some-page st [] k n h = nothing-moved z (tableOf (st .board)) k h
 never-another-frame z some-page st (c ∷ cs) k n h =
-    let rest = never-another-frame z some-page (step z st c .state) cs k (and-r (not (lendsAnew z st c k)) (neverAnew z (step z st c .state) cs k) n) h in
+    let now = and-l (not (lendsAnew z st c k)) (neverAnew z (step z st c .state) cs k) n in
+    let later = and-r (not (lendsAnew z st c k)) (neverAnew z (step z st c .state) cs k) n in
+    let rest = never-another-frame z some-page (step z st c .state) cs k later h in
     kept-twice z (tableOf (st .board)) (tableOf (step z st c .state .board)) (tableOf (steps z (step z st c .state) cs .board)) k
-    (held-keeps-line z some-page st c k (and-l (not (lendsAnew z st c k)) (neverAnew z (step z st c .state) cs k) n) (rest .was-held)) rest
+    (held-keeps-line z some-page st c k now (rest .was-held)) rest
 
 -- so an address that translates after such a list, hit or miss, gives the physical address that it had at the start
 pub same-address : (z : Sizes) → 1 ≤ z .pages → (st : State) (cs : List Call) (space address rights : ℕ)
@@ -144,5 +153,7 @@ pub same-address : (z : Sizes) → 1 ≤ z .pages → (st : State) (cs : List Ca
     → step z (steps z st cs) (Translate space address rights) .reply .address ≡ physical z (st .board) space address
 unfolding report physical
 same-address z some-page st cs space address rights n e =
-    let kept = never-another-frame z some-page st cs (pageAt z space address) n (translate-fine z (steps z st cs) space address rights e .is-held) in
-    rw (accepted z (steps z st cs) (Translate space address rights) e) (ap (λ (i : ℕ). pageBytes * i + address % pageBytes) (kept .same-frame))
+    let h = translate-fine z (steps z st cs) space address rights e .is-held in
+    let kept = never-another-frame z some-page st cs (pageAt z space address) n h in
+    rw (accepted z (steps z st cs) (Translate space address rights) e)
+    (ap (λ (i : ℕ). pageBytes * i + address % pageBytes) (kept .same-frame))
