@@ -158,15 +158,15 @@ module _ (z : Sizes) (live : List Bool) (f : Table) (sound : SoundPages z live f
       go (suc n) q = omega arith
 
   -- the line of a page that is still held is what it was
-  pub is-line-kept : {k : ℕ} {l : List ℕ} → Line z f k l → T (held (withdraw a f k)) → Line z (withdraw a f) k l
+  is-line-kept : {k : ℕ} {l : List ℕ} → Line z f k l → T (held (withdraw a f k)) → Line z (withdraw a f) k l
   is-line-kept = is-line-same z f (withdraw a f) (λ k. T (held (withdraw a f k))) link-kept parent-kept
 
   -- and so is the line as it is computed
-  pub line-kept : (n k : ℕ) → T (held (withdraw a f k)) → line z (withdraw a f) n k ≡ line z f n k
+  line-kept : (n k : ℕ) → T (held (withdraw a f k)) → line z (withdraw a f) n k ≡ line z f n k
   line-kept = line-same z f (withdraw a f) (λ k. T (held (withdraw a f k))) link-kept parent-kept
 
   -- followed as far as there are spaces, too
-  pub lineOf-kept : (k : ℕ) → T (held (withdraw a f k)) → lineOf z (withdraw a f) k ≡ lineOf z f k
+  lineOf-kept : (k : ℕ) → T (held (withdraw a f k)) → lineOf z (withdraw a f) k ≡ lineOf z f k
   lineOf-kept k h = line-kept (z .spaces) k h
 
   -- so the same pages are on it
@@ -182,7 +182,7 @@ module _ (z : Sizes) (live : List Bool) (f : Table) (sound : SoundPages z live f
   meets-kept k s h = rw (lineOf-kept k h)
 
   -- and ends at the same frame
-  pub frame-kept : (n k : ℕ) → T (held (withdraw a f k)) → frame z (withdraw a f) n k ≡ frame z f n k
+  frame-kept : (n k : ℕ) → T (held (withdraw a f k)) → frame z (withdraw a f) n k ≡ frame z f n k
   frame-kept = frame-same z f (withdraw a f) (λ k. T (held (withdraw a f k))) link-kept parent-kept
 
   -- followed as far as there are spaces, too

@@ -48,11 +48,11 @@ module _ (z : Sizes) (live : List Bool) (f : Table) (len : length live ≡ z .sp
   held-up k s p e h = sound .lent k s p e .parent-held
 
   -- and its line
-  pub held-line : {k : ℕ} {l : List ℕ} → Line z f k l → T (held (f k)) → Line z (relink t x f) k l
+  held-line : {k : ℕ} {l : List ℕ} → Line z f k l → T (held (f k)) → Line z (relink t x f) k l
   held-line = is-line-same z f (relink t x f) (λ k. T (held (f k))) held-link held-up
 
   -- and its frame
-  pub held-frame : (n k : ℕ) → T (held (f k)) → frame z (relink t x f) n k ≡ frame z f n k
+  held-frame : (n k : ℕ) → T (held (f k)) → frame z (relink t x f) n k ≡ frame z f n k
   held-frame = frame-same z f (relink t x f) (λ k. T (held (f k))) held-link held-up
 
   -- so a place of the cache still names its page

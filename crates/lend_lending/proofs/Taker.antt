@@ -115,12 +115,12 @@ module _ (z : Sizes) (b : Tables) (sound : Sound z b) (s p u v r : ℕ) (m : Len
     then k = flushed-at z (b .live) one (sound .shape .live-long) one-sound g d k
 
     -- what stood below the taker is empty
-    pub handed-below : (k : ℕ) → T (below z (tableOf b) k (key z u v))
+    handed-below : (k : ℕ) → T (below z (tableOf b) k (key z u v))
         → slotAt (flushed z g d (mapped z s p (key z u v) r (b .slots))) k ≡ emptySlot
     handed-below k h = then k ∙ (ap (cut (loss k)) (mapped-below k h) ∙ cut-empty (loss k))
 
     -- a held page other than the taker has its link
-    pub handed-link : (k : ℕ) → T (not (eqb k (key z u v))) → T (held (slotAt (flushed z g d (mapped z s p (key z u v) r (b .slots))) k))
+    handed-link : (k : ℕ) → T (not (eqb k (key z u v))) → T (held (slotAt (flushed z g d (mapped z s p (key z u v) r (b .slots))) k))
         → slotAt (flushed z g d (mapped z s p (key z u v) r (b .slots))) k .link ≡ tableOf b k .link
     handed-link k n h = cut-link _ _ _ (then k) h ∙ mapped-link k n (cut-held _ _ _ (then k) h)
 
