@@ -1,4 +1,4 @@
--- create, delete, unmap and flush keep a sound board sound, and a page that stays held keeps its line.
+-- create, delete, unmap and flush keep a sound board sound, and only withdraw.
 use mathlib.Core.Path.{_≡_, refl, sym, subst, _∙_, fun-ext}
 use mathlib.Core.Bool.{Bool, true, false, _||_, cond}
 use mathlib.Core.List.{List}
@@ -12,14 +12,14 @@ use Rattle.lend.specs.Sizes.{Sizes, key}
 use Rattle.lend.specs.Rights.{allRights}
 use Rattle.lend.specs.Slots.{Table, slotAt, held}
 use Rattle.lend.specs.Tables.{Tables, State, tableOf}
-use Rattle.lend.specs.Line.{lineOf, onLine, below, meets}
+use Rattle.lend.specs.Line.{onLine, below, meets}
 use Rattle.lend.specs.Cache.{droppedWhere, lostRight}
 use Rattle.lend.specs.Sound.{SoundPages, SoundCache, Sound}
 use Rattle.lend.specs.Withdraw.{unmapped, flushed}
 use Rattle.lend.specs.Spaces.{wiped}
 use Rattle.lend.specs.Calls.{Call, Create, Delete, Unmap, Flush, Map, Grant, Translate, Load, Store, number, withSlots, noTaker, withLive, boardAfter, step}
 use Rattle.lend_basics.proofs.Rights.{within-zero-l}
-use Rattle.lend_laws.proofs.Withdraw.{cut-zero, withdraw, Closed, withdraw-sound, link-kept, lineOf-kept}
+use Rattle.lend_laws.proofs.Withdraw.{cut-zero, withdraw, Closed, withdraw-sound, link-kept}
 use Rattle.lend_laws.proofs.Flush.{length-unmapped, length-flushed, unmap-closed, flush-closed, unmapped-is, flushed-is}
 use Rattle.lend_laws.proofs.Spaces.{out-of-pool, length-wiped, wiped-closed, wiped-is, wiped-gone, create-live, delete-live}
 use Rattle.lend_laws.proofs.CacheDrops.{length-dropped, withdraw-cache}
@@ -40,15 +40,11 @@ none-withdrawn z live f sound = record {
   is = sym (fun-ext (cut-zero z live f sound));
 }
 
--- a page that is held after a withdrawal has its old line and its old link
-pub withdrawn-line : (z : Sizes) (live : List Bool) (f g : Table) → SoundPages z live f → Withdrawn z f g → (k : ℕ) → T (held (g k))
-    → (lineOf z g k ≡ lineOf z f k) × (g k .link ≡ f k .link)
-withdrawn-line z live f g sound w k h =
-    rw (w .is)
-    (lineOf-kept z live f sound (w .amounts) (w .closed) k t, link-kept z live f sound (w .amounts) (w .closed) k t)
-  where
-    t : T (held (withdraw (w .amounts) f k))
-    t = subst (λ (x : Table). T (held (x k))) (w .is) h
+-- a page that is held after a withdrawal has its old link
+pub withdrawn-link : (z : Sizes) (live : List Bool) (f g : Table) → SoundPages z live f → Withdrawn z f g → (k : ℕ) → T (held (g k))
+    → g k .link ≡ f k .link
+withdrawn-link z live f g sound w k h =
+    rw (w .is) (link-kept z live f sound (w .amounts) (w .closed) k (subst (λ (x : Table). T (held (x k))) (w .is) h))
 
 -- ── boards ───────────────────────────────────────────────────────────────
 module _ (z : Sizes) (b : Tables) (sound : Sound z b) where
@@ -180,7 +176,8 @@ module _ (z : Sizes) (some-page : 1 ≤ z .pages) (st : State) (sound : Sound z 
   accepted-sound (Load space address) y e = absurd y
   accepted-sound (Store space address byte) y e = absurd y
 
-  accepted-withdrawn : (c : Call) → Plain c → number z st c ≡ 0 → Withdrawn z (tableOf (st .board)) (tableOf (boardAfter z (st .board) c))
+  -- an accepted one only withdraws
+  pub accepted-withdrawn : (c : Call) → Plain c → number z st c ≡ 0 → Withdrawn z (tableOf (st .board)) (tableOf (boardAfter z (st .board) c))
   accepted-withdrawn (Create s) y e = create-withdrawn z some-page (st .board) sound s
   accepted-withdrawn (Delete s) y e = delete-withdrawn z some-page (st .board) sound s (delete-fine z st s e)
   accepted-withdrawn (Unmap s p d) y e = unmap-withdrawn z some-page (st .board) sound s p d (unmap-fine z st s p d e)
@@ -199,21 +196,3 @@ keeps-sound z some-page st sound c y = go (ℕ-discrete (number z st c) 0)
     go : Dec (number z st c ≡ 0) → Sound z (step z st c .state .board)
     go (yes e) = rw (accepted z st c e) (accepted-sound z some-page st sound c y e)
     go (no h) = rw (refused z st c h) sound
-
--- and withdraws from pages, no more
-pub step-withdrawn : (z : Sizes) → 1 ≤ z .pages → (st : State) → Sound z (st .board) → (c : Call) → Plain c
-    → Withdrawn z (tableOf (st .board)) (tableOf (step z st c .state .board))
-step-withdrawn z some-page st sound c y = go (ℕ-discrete (number z st c) 0)
-  where
-    go : Dec (number z st c ≡ 0) → Withdrawn z (tableOf (st .board)) (tableOf (step z st c .state .board))
-    go (yes e) = rw (accepted z st c e) (accepted-withdrawn z some-page st sound c y e)
-    go (no h) = rw (refused z st c h) (none-withdrawn z (st .board .live) (tableOf (st .board)) (sound .pages))
-
--- so a page that is held after the call has the line and the link that it had before
-pub held-keeps-line : (z : Sizes) → 1 ≤ z .pages → (st : State) → Sound z (st .board) → (c : Call) → Plain c
-    → (k : ℕ) → T (held (tableOf (step z st c .state .board) k))
-    → (lineOf z (tableOf (step z st c .state .board)) k ≡ lineOf z (tableOf (st .board)) k)
-    × (tableOf (step z st c .state .board) k .link ≡ tableOf (st .board) k .link)
-held-keeps-line z some-page st sound c y k h =
-    withdrawn-line z (st .board .live) (tableOf (st .board)) (tableOf (step z st c .state .board)) (sound .pages)
-    (step-withdrawn z some-page st sound c y) k h

@@ -1,4 +1,5 @@
--- The seven invariants of 003, section 4, on every sound board, and so on every board that calls reach from the start.
+-- The seven invariants of 003, section 4: the third on every board, the others on every sound one, and so all of them on every
+-- board that calls reach from the start.
 use mathlib.Core.Path.{_≡_, refl, sym, subst, ap, _∙_}
 use mathlib.Core.Bool.{Bool, false, not}
 use mathlib.Core.List.{List, _∷_, map}
@@ -158,6 +159,14 @@ one-frame-only {z} {f} {x} {i} {j} (above {w = w} e u) (above {w = y} d v) =
     let q : y ≡ w = cc in
     one-frame-only u (subst (λ (k : ℕ). ToFrame z f k j) q v)
 
+-- a page has one parent and one frame: on every board, sound or not, as a page has one link
+pub invariant-3 : (z : Sizes) (b : Tables) → OneParent z b
+invariant-3 z b = record {
+  one-link = λ x l m e d. sym e ∙ d;
+  one-parent = λ x y w e d. let n : some y ≡ some w = sym e ∙ d in cc;
+  one-frame = λ x i j u v. one-frame-only u v;
+}
+
 module _ (z : Sizes) (b : Tables) (sound : Sound z b) where
   -- no page is lent to a space that it came through
   pub invariant-1 : NoRing z b
@@ -169,14 +178,6 @@ module _ (z : Sizes) (b : Tables) (sound : Sound z b) where
     λ h. (frameOf z (tableOf b) x, held-to-frame z (b .live) (tableOf b) (sound .shape .live-long) (sound .pages) x h),
     λ r. frame-to-held (r .1),
   )
-
-  -- a page has one parent and one frame (this is so on every board: a link is one value)
-  pub invariant-3 : OneParent z b
-  invariant-3 = record {
-    one-link = λ x l m e d. sym e ∙ d;
-    one-parent = λ x y w e d. let n : some y ≡ some w = sym e ∙ d in cc;
-    one-frame = λ x i j u v. one-frame-only u v;
-  }
 
   -- a page whose last right went is empty
   pub invariant-4 : HeldHasRight b
@@ -233,7 +234,7 @@ pub sound-invariants : (z : Sizes) (b : Tables) → Sound z b → Invariants z b
 sound-invariants z b sound = record {
   no-ring = invariant-1 z b sound;
   held-has-frame = invariant-2 z b sound;
-  one-parent = invariant-3 z b sound;
+  one-parent = invariant-3 z b;
   held-has-right = invariant-4 z b sound;
   parent-has-rights = invariant-5 z b sound;
   cache-agrees = invariant-6 z b sound;

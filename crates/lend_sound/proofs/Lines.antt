@@ -108,6 +108,39 @@ module _ {z : Sizes} {f : Table} where
   frame-fuel {k} (climbs {q = q} e a) (suc m) (suc n) h g =
       frame-climbs z f k q e m ∙ frame-fuel a m n (le-of-suc-le-suc h) (le-of-suc-le-suc g) ∙ sym (frame-climbs z f k q e n)
 
+-- ── the same links ───────────────────────────────────────────────────────
+-- Two tables have the same links on some pages, with which their parents stay: what stands behind such a page is the same in both.
+module _ (z : Sizes) (f g : Table) (Stays : ℕ → Type 0) (same : (k : ℕ) → Stays k → g k .link ≡ f k .link)
+    (up : (k s p : ℕ) → f k .link ≡ Page s p → Stays k → Stays (key z s p)) where
+  -- its line
+  pub is-line-same : {k : ℕ} {l : List ℕ} → Line z f k l → Stays k → Line z g k l
+  is-line-same {k} (ends e) h = ends {k = k} (rw (same k h) e)
+  is-line-same {k} (climbs {q = q} e a) h =
+      let r = parent-link z f k q e in
+      climbs {k = k} {q = q} (rw (same k h) e) (is-line-same a (subst Stays (r .3) (up k (r .0) (r .1) (r .2) h)))
+
+  -- its line as it is computed
+  pub line-same : (n k : ℕ) → Stays k → line z g n k ≡ line z f n k
+  unfolding line
+  line-same zero k h = refl
+  line-same (suc n) k h = go (λ q. line-same n q) (f k .link) refl
+    where
+      go : ((q : ℕ) → Stays q → line z g n q ≡ line z f n q) → (l : Link) → f k .link ≡ l → line z g (suc n) k ≡ line z f (suc n) k
+      go ih Nothing e = rw (same k h, e)
+      go ih (Frame i) e = rw (same k h, e)
+      go ih (Page s p) e = rw (same k h, e) (ap (λ (l : List ℕ). k ∷ l) (ih (key z s p) (up k s p e h)))
+
+  -- and its frame
+  pub frame-same : (n k : ℕ) → Stays k → frame z g n k ≡ frame z f n k
+  unfolding frame
+  frame-same zero k h = refl
+  frame-same (suc n) k h = go (λ q. frame-same n q) (f k .link) refl
+    where
+      go : ((q : ℕ) → Stays q → frame z g n q ≡ frame z f n q) → (l : Link) → f k .link ≡ l → frame z g (suc n) k ≡ frame z f (suc n) k
+      go ih Nothing e = rw (same k h, e)
+      go ih (Frame i) e = rw (same k h, e)
+      go ih (Page s p) e = rw (same k h, e) (ih (key z s p) (up k s p e h))
+
 -- ── a computed line that reaches the pool is a line ──────────────────────
 module _ (z : Sizes) (f : Table) (tops : (k : ℕ) → T (inPool z k) → parent z f k ≡ none) where
   -- where pages of space 0 have no parent, a computation that came to space 0 was at the line's end
