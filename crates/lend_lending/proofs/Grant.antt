@@ -181,6 +181,7 @@ granted-is z g t r b s p e = rw e
 pub record HandedOn (z : Sizes) (b : Tables) (s p u v r : ℕ) : Type 0 where
   pub parent-space : ℕ
   pub parent-page : ℕ
+  pub parent-is : tableOf b (key z s p) .link ≡ Page parent-space parent-page
   pub lendable : Lendable z (b .live) (tableOf b) parent-space parent-page u v r
   pub giver-out : z .pages ≤ key z s p
   pub loss-small : giverLoses r < 8
@@ -195,6 +196,7 @@ handed-on z b sound s p u v r m out =
     record {
       parent-space = l .0;
       parent-page = l .1;
+      parent-is = l .2;
       lendable = parent-lendable z (b .live) (tableOf b) (sound .shape .live-long) (sound .pages) s p u v r m (l .0) (l .1) (l .2);
       giver-out = out-of-pool z s p out;
       loss-small = giver-loses-small r (omega (arith, m .known-rights));

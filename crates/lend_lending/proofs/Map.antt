@@ -196,7 +196,7 @@ module _ (z : Sizes) (live : List Bool) (b : List Slot) (len : length live ≡ z
   }
 
   -- a map is the flush of the taker, and then its link to the giver
-  mapped-is : slotAt (mapped z s p (key z u v) r b) ≡ relink (key z u v) (lentSlot s p r) (withdraw amount (slotAt b))
+  pub mapped-is : slotAt (mapped z s p (key z u v) r b) ≡ relink (key z u v) (lentSlot s p r) (withdraw amount (slotAt b))
   unfolding mapped amount
   mapped-is =
       slot-set (flushed z (key z u v) allRights b) (key z u v) (lentSlot s p r) in-range

@@ -1,5 +1,5 @@
 -- What a map or a grant leaves of the pages other than the taker: those below the taker are empty, the others keep their links.
-use mathlib.Core.Path.{_≡_, refl, ap, _∙_}
+use mathlib.Core.Path.{_≡_, refl, sym, ap, _∙_}
 use mathlib.Core.Bool.{Bool, true, false, not, cond}
 use mathlib.Core.List.{List}
 use Prim.Native.Nat.{ℕ}
@@ -9,18 +9,19 @@ use Rattle.lend.specs.declared.Link.the-variants.{Page}
 use Rattle.lend.specs.declared.Slot.{Slot}
 use Rattle.lend.specs.Sizes.{Sizes, key}
 use Rattle.lend.specs.Rights.{less}
-use Rattle.lend.specs.Slots.{Table, emptySlot, slotAt, held, cut}
+use Rattle.lend.specs.Slots.{Table, emptySlot, lentSlot, slotAt, held, cut}
 use Rattle.lend.specs.Tables.{Tables, tableOf}
 use Rattle.lend.specs.Line.{lineOf, onLine, below, frameOf}
 use Rattle.lend.specs.Sound.{SoundPages, Sound}
 use Rattle.lend.specs.Withdraw.{flushed}
 use Rattle.lend.specs.Lending.{mapped, granted, giverLoses}
-use Rattle.lend_basics.proofs.Bools.{and-l, and-r, is-true}
+use Rattle.lend_basics.proofs.Bools.{and-l, and-r, is-true, is-false, differ}
 use Rattle.lend_basics.proofs.Rights.{less-all}
 use Rattle.lend_sound.proofs.Lines.{line-same, frame-same, below-up, line-self}
-use Rattle.lend_laws.proofs.Withdraw.{left-link, rights-small, cut-empty}
+use Rattle.lend_laws.proofs.Withdraw.{left-link, rights-small, cut-zero, cut-empty, withdraw}
 use Rattle.lend_laws.proofs.Flush.{flushed-at}
-use Rattle.lend_lending.proofs.Map.{Lendable, amount, mapped-other, mapped-sound}
+use Rattle.lend_lending.proofs.Relink.{relink-same}
+use Rattle.lend_lending.proofs.Map.{Lendable, amount, mapped-is, mapped-other, mapped-sound}
 use Rattle.lend_lending.proofs.Grant.{HandedOn}
 
 -- a slot that came out of another by a cut, and is held, has its link
@@ -82,6 +83,20 @@ module _ (z : Sizes) (b : Tables) (sound : Sound z b) (s p u v r : ℕ) (m : Len
   other k n =
       mapped-other z (b .live) (b .slots) (sound .shape .live-long) (sound .shape .slots-long) (sound .pages) s p u v r m k
       (λ e. T-not (eqb k (key z u v)) n (rw e (eqb-refl (key z u v))))
+
+  -- the taker has its new link
+  pub mapped-taker : slotAt (mapped z s p (key z u v) r (b .slots)) (key z u v) ≡ lentSlot s p r
+  mapped-taker =
+      ap (λ (g : Table). g (key z u v))
+      (mapped-is z (b .live) (b .slots) (sound .shape .live-long) (sound .shape .slots-long) (sound .pages) s p u v r m)
+      ∙ relink-same (key z u v) (lentSlot s p r) (withdraw taken (tableOf b))
+
+  -- a page whose line does not have the taker keeps its slot
+  pub mapped-apart : (k : ℕ) → (T (onLine z (tableOf b) k (key z u v)) → ⊥) → slotAt (mapped z s p (key z u v) r (b .slots)) k ≡ tableOf b k
+  unfolding amount
+  mapped-apart k off =
+      other k (differ k (key z u v) (λ e. off (rw (sym e) (line-self z (b .live) (tableOf b) (sound .shape .live-long) (sound .pages) k))))
+      ∙ rw (is-false (onLine z (tableOf b) k (key z u v)) off) (cut-zero z (b .live) (tableOf b) (sound .pages) k)
 
   -- what stood below the taker is empty
   pub mapped-below : (k : ℕ) → T (below z (tableOf b) k (key z u v)) → slotAt (mapped z s p (key z u v) r (b .slots)) k ≡ emptySlot
