@@ -56,7 +56,7 @@ refused rules.py "number.rt:2: a public function with a requires"
 refused contracts.py "text::number::hollow has a contract of a form that is not known"
 
 with lend_entry/src/board.rt <<'F'
-pub extern "C" fn hollow(x: u8) -> u8
+#[no_mangle] pub extern "C" fn hollow(x: u8) -> u8
     ensures { λ r. ⌜ r ≡ lessOf x x ⌝ }
     requires small { ⌜ x < 3 ⌝ }
 {

@@ -8,7 +8,8 @@ from collections import namedtuple
 
 # clauses: the word and what stands in the braces of each, on one line
 Head = namedtuple('Head', 'line name public parameters result clauses')
-FIRST = re.compile(r'(?m)^[ \t]*((?:pub(?:\([^)]*\))? +)?(?:(?:const|unsafe|ghost|extern(?: "\w+")?) +)*)fn +(\w+)')
+# a function's first words, wherever on a line they stand: pub, pub(crate), extern "C" and whatever else comes before `fn`
+FIRST = re.compile(r'(?<![\w#])((?:[a-z]+(?:\([^)]*\))?(?:\s+"\w+")?\s+)*)fn\s+(\w+)')
 ARROW = re.compile(r'(?s)\s*->\s*(.*?)\s*(?=\b(?:requires|ensures|ghost)\b|\{)')
 CLOSING = {'(': ')', '{': '}', '[': ']', '<': '>'}
 
