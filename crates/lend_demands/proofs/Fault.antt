@@ -90,7 +90,7 @@ module _ (z : Sizes) (b : Tables) (sound : Sound z b) (s p u v r : ℕ) (m : Len
       ∙ rw (
         not-same,
         is-false (onLine z (slotAt one) (key z x y) (key z s p))
-        (line-apart z (b .live) (slotAt one) (sound .shape .live-long) one-is-sound (key z s p) x y (ap (λ (q : Slot). q .link) giver-same ∙ up)),
+            (line-apart z (b .live) (slotAt one) (sound .shape .live-long) one-is-sound (key z s p) x y (ap (λ (q : Slot). q .link) giver-same ∙ up)),
       )
     where
       not-same : eqb (key z u v) (key z s p) ≡ false
