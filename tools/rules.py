@@ -3,7 +3,8 @@
 
 - a public function has no `requires`, and is under 40 lines with its contract;
 - a definition file, a proof file and a source file begin with a comment that says what they are for;
-- no size stands as a bare number in a model's crates, outside their size files.
+- no size stands as a bare number in a model's crates, outside their size files;
+- a must-fail edit has its control beside it (tools/controls.py), or says why there is none.
 """
 import glob
 import re
@@ -49,6 +50,10 @@ for path in sorted(glob.glob('crates/entry*/**/*.*', recursive=True)):
         code = re.sub(r'pick\([^,]*, \d+', '', re.split(r'//|--', line)[0])
         if re.search(r'(?<![\w.-])(8|16|32|64|256|1024|32768|65536)(?![\w.])', code):
             breach(path, at, 'a size as a bare number')
+
+for path in sorted(glob.glob('crates/*/must-fail/*.edit')):
+    if not glob.glob(path[:-len('.edit')] + '.control') and not re.search(r'(?m)^# no control: ', open(path).read()):
+        breach(path, 1, 'an edit with neither a control nor a reason why there is none')
 
 print('\n'.join(breaches) if breaches else 'the house rules hold')
 sys.exit(1 if breaches else 0)
