@@ -33,7 +33,7 @@ pub record Withdrawn (z : Sizes) (f g : Table) : Type 0 where
   pub is : g ≡ withdraw amounts f
 
 -- no change is a withdrawal of nothing
-pub none-withdrawn : (z : Sizes) (live : List Bool) (f : Table) → SoundPages z live f → Withdrawn z f f
+none-withdrawn : (z : Sizes) (live : List Bool) (f : Table) → SoundPages z live f → Withdrawn z f f
 none-withdrawn z live f sound = record {
   amounts = λ k. 0;
   closed = record { small = λ k. lit< tt; not-pool = λ k h. refl; down = λ k s p e. within-zero-l 0 (lit< tt) };
@@ -49,7 +49,7 @@ withdrawn-link z live f g sound w k h =
 -- ── boards ───────────────────────────────────────────────────────────────
 module _ (z : Sizes) (b : Tables) (sound : Sound z b) where
   -- a board whose slots change by a withdrawal, with the entries of the pages that lose a right dropped
-  pub slots-sound : (new : List Slot) → length new ≡ length (b .slots)
+  slots-sound : (new : List Slot) → length new ≡ length (b .slots)
       → Withdrawn z (tableOf b) (slotAt new) → Sound z (withSlots z b new noTaker)
   slots-sound new len w = record {
     shape = record {
@@ -65,7 +65,7 @@ module _ (z : Sizes) (b : Tables) (sound : Sound z b) where
   }
 
   -- a board whose live list changes at one space
-  pub live-sound : (s : ℕ) (is : Bool) → SoundPages z (set (b .live) s is) (tableOf b) → Sound z (withLive b s is)
+  live-sound : (s : ℕ) (is : Bool) → SoundPages z (set (b .live) s is) (tableOf b) → Sound z (withLive b s is)
   live-sound s is pages = record {
     shape = record {
       slots-long = sound .shape .slots-long;
@@ -79,7 +79,7 @@ module _ (z : Sizes) (b : Tables) (sound : Sound z b) where
 -- ── the four calls ───────────────────────────────────────────────────────
 module _ (z : Sizes) (some-page : 1 ≤ z .pages) (b : Tables) (sound : Sound z b) where
   -- a create leaves the slots
-  pub create-withdrawn : (s : ℕ) → Withdrawn z (tableOf b) (tableOf (boardAfter z b (Create s)))
+  create-withdrawn : (s : ℕ) → Withdrawn z (tableOf b) (tableOf (boardAfter z b (Create s)))
   unfolding boardAfter
   create-withdrawn s = none-withdrawn z (b .live) (tableOf b) (sound .pages)
 
@@ -115,14 +115,14 @@ module _ (z : Sizes) (some-page : 1 ≤ z .pages) (b : Tables) (sound : Sound z 
   }
 
   -- an accepted create keeps the board sound
-  pub create-sound : (s : ℕ) → CreateFine z b s → Sound z (boardAfter z b (Create s))
+  create-sound : (s : ℕ) → CreateFine z b s → Sound z (boardAfter z b (Create s))
   unfolding boardAfter
   create-sound s fine =
       live-sound z b sound s true
       (create-live z (b .live) (tableOf b) s (omega (arith, fine .space-in, sound .shape .live-long)) (sound .pages))
 
   -- so does an accepted delete
-  pub delete-sound : (s : ℕ) → DeleteFine z b s → Sound z (boardAfter z b (Delete s))
+  delete-sound : (s : ℕ) → DeleteFine z b s → Sound z (boardAfter z b (Delete s))
   unfolding boardAfter
   delete-sound s fine =
       live-sound z (withSlots z b (wiped z s (b .slots)) noTaker) after s false
@@ -136,13 +136,13 @@ module _ (z : Sizes) (some-page : 1 ≤ z .pages) (b : Tables) (sound : Sound z 
       after = slots-sound z b sound (wiped z s (b .slots)) (length-wiped z s (b .slots)) (wiped-withdrawn s out)
 
   -- an accepted unmap
-  pub unmap-sound : (s p d : ℕ) → PageFine z b s p d → Sound z (boardAfter z b (Unmap s p d))
+  unmap-sound : (s p d : ℕ) → PageFine z b s p d → Sound z (boardAfter z b (Unmap s p d))
   unfolding boardAfter
   unmap-sound s p d fine =
       slots-sound z b sound (unmapped z (key z s p) d (b .slots)) (length-unmapped z (key z s p) d (b .slots)) (unmap-withdrawn s p d fine)
 
   -- and an accepted flush
-  pub flush-sound : (s p d : ℕ) → 1 ≤ s → PageFine z b s p d → Sound z (boardAfter z b (Flush s p d))
+  flush-sound : (s p d : ℕ) → 1 ≤ s → PageFine z b s p d → Sound z (boardAfter z b (Flush s p d))
   unfolding boardAfter
   flush-sound s p d out fine =
       slots-sound z b sound (flushed z (key z s p) d (b .slots)) (length-flushed z (key z s p) d (b .slots)) (flush-withdrawn s p d out fine)

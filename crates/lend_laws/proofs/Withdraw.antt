@@ -34,7 +34,7 @@ pub right-link : (r : ℕ) (l : Link) → 1 ≤ r → linkLeft r l ≡ l
 right-link r l h = rw (ne-eqb r 0 (λ e. omega arith))
 
 -- and a link that stays shows a right
-pub link-right : (r : ℕ) (l : Link) → T (linked (linkLeft r l)) → 1 ≤ r
+link-right : (r : ℕ) (l : Link) → T (linked (linkLeft r l)) → 1 ≤ r
 link-right zero l h = absurd h
 link-right (suc r) l h = omega arith
 
@@ -122,7 +122,7 @@ pub record Closed (z : Sizes) (f : Table) (a : ℕ → ℕ) : Type 0 where
 
 module _ (z : Sizes) (live : List Bool) (f : Table) (sound : SoundPages z live f) (a : ℕ → ℕ) (closed : Closed z f a) where
   -- what is left of a page is among what is left of its parent
-  pub left-within : (k s p : ℕ) → f k .link ≡ Page s p
+  left-within : (k s p : ℕ) → f k .link ≡ Page s p
       → T (within (less (f k .rights) (a k)) (less (f (key z s p) .rights) (a (key z s p))))
   left-within k s p e =
       less-within-less (f k .rights) (f (key z s p) .rights) (a (key z s p)) (a k)
@@ -146,7 +146,7 @@ module _ (z : Sizes) (live : List Bool) (f : Table) (sound : SoundPages z live f
   pos-left k h l = rw (right-link (less (f k .rights) (a k)) (f k .link) l) h
 
   -- the parent of a page that is still held is still held
-  pub parent-kept : (k s p : ℕ) → f k .link ≡ Page s p → T (held (withdraw a f k)) → T (held (withdraw a f (key z s p)))
+  parent-kept : (k s p : ℕ) → f k .link ≡ Page s p → T (held (withdraw a f k)) → T (held (withdraw a f (key z s p)))
   parent-kept k s p e h = pos-left (key z s p) (sound .lent k s p e .parent-held) (go (less (f (key z s p) .rights) (a (key z s p))) refl)
     where
       go : (n : ℕ) → less (f (key z s p) .rights) (a (key z s p)) ≡ n → 1 ≤ less (f (key z s p) .rights) (a (key z s p))

@@ -123,7 +123,7 @@ module _ (z : Sizes) (live : List Bool) (b : List Slot) (len : length live ≡ z
       (amount-closed z live b len long sound s p u v r m .small k))
 
   -- after a map and a flush, a place whose page is not the taker and has all its rights still names it
-  pub flushed-names : (q : Place) → Names z (slotAt b) q → (pageNamed z q ≡ key z u v → ⊥)
+  flushed-names : (q : Place) → Names z (slotAt b) q → (pageNamed z q ≡ key z u v → ⊥)
       → T (within (slotAt b (pageNamed z q) .rights) (slotAt (flushed z g d (mapped z s p (key z u v) r b)) (pageNamed z q) .rights))
       → Names z (slotAt (flushed z g d (mapped z s p (key z u v) r b))) q
   unfolding one

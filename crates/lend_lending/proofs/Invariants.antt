@@ -56,7 +56,7 @@ module _ (z : Sizes) (live : List Bool) (f : Table) (len : length live ≡ z .sp
       line-step z live f len sound x (r .0) (r .1) (r .2) ∙ ap (λ (n : ℕ). x ∷ lineOf z f n) (r .3)
 
   -- the page that links lead up to is on the line
-  pub up-on-line : {x y : ℕ} → Up z f x y → T (onLine z f x y)
+  up-on-line : {x y : ℕ} → Up z f x y → T (onLine z f x y)
   up-on-line {x} {y} (first e) = rw (line-up x y e) (or-r (eqb x y) (onLine z f y y) (line-self z live f len sound y))
   up-on-line {x} {y} (further {w = w} e u) = rw (line-up x w e) (or-r (eqb x y) (onLine z f w y) (up-on-line u))
 
@@ -85,18 +85,6 @@ module _ (z : Sizes) (live : List Bool) (f : Table) (len : length live ≡ z .sp
       go ih (inr t) (yes d) = first {x = x} (e ∙ ap some d)
       go ih (inr t) (no d) = further {x = x} {w = w} e (ih t d)
 
-  -- a page is below just those that links lead up to from it
-  pub below-is-up : (x y : ℕ) → T (below z f x y) ↔ Up z f x y
-  below-is-up x y = (to, from)
-    where
-      to : T (below z f x y) → Up z f x y
-      to h =
-          line-to-up (the-line z live f len sound x) y (and-l (onLine z f x y) (not (eqb x y)) h)
-          (λ e. T-not (eqb x y) (and-r (onLine z f x y) (not (eqb x y)) h) (rw e (eqb-refl y)))
-
-      from : Up z f x y → T (below z f x y)
-      from u = and-i (onLine z f x y) (not (eqb x y)) (up-on-line u) (differ x y (λ e. up-apart u (ap (spaceOf z) e)))
-
   line-to-frame : {x : ℕ} {l : List ℕ} → Line z f x l → T (held (f x)) → ToFrame z f x (frameOf z f x)
   line-to-frame {x} (ends e) h = go (f x .link) refl h
     where
@@ -109,7 +97,7 @@ module _ (z : Sizes) (live : List Bool) (f : Table) (len : length live ≡ z .sp
       (subst (λ (i : ℕ). ToFrame z f w i) (sym (frame-up z live f len sound x w e)) (line-to-frame a (parent-held z live f len sound x w e)))
 
   -- links lead from a held page up to its frame
-  pub held-to-frame : (x : ℕ) → T (held (f x)) → ToFrame z f x (frameOf z f x)
+  held-to-frame : (x : ℕ) → T (held (f x)) → ToFrame z f x (frameOf z f x)
   held-to-frame x h = line-to-frame (the-line z live f len sound x) h
 
 frame-to-held : {z : Sizes} {f : Table} {x i : ℕ} → ToFrame z f x i → T (held (f x))
@@ -230,7 +218,7 @@ pub record Invariants (z : Sizes) (b : Tables) : Type 0 where
   pub named-once : NamedOnce b
 
 -- a sound board has all seven
-pub sound-invariants : (z : Sizes) (b : Tables) → Sound z b → Invariants z b
+sound-invariants : (z : Sizes) (b : Tables) → Sound z b → Invariants z b
 sound-invariants z b sound = record {
   no-ring = invariant-1 z b sound;
   held-has-frame = invariant-2 z b sound;

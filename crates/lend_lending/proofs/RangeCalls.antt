@@ -33,7 +33,7 @@ module _ (z : Sizes) (P : State → Type 0) (keeps : (st : State) → P st → (
       (keeps (rangeTo z st c n .state) (pages-keep n) (pageCall z c n))
 
   -- what a one-page call keeps, a call over a range keeps
-  pub range-keeps : P (rangeStep z st c .state)
+  range-keeps : P (rangeStep z st c .state)
   unfolding rangeStep
   range-keeps = go (eqb (rangeNumber z st c) 0)
     where
@@ -44,7 +44,3 @@ module _ (z : Sizes) (P : State → Type 0) (keeps : (st : State) → P st → (
 -- a call over a range, done or refused, leaves a sound board sound
 pub range-sound : (z : Sizes) → 1 ≤ z .pages → (st : State) → Sound z (st .board) → (c : RangeCall) → Sound z (rangeStep z st c .state .board)
 range-sound z some-page st sound c = range-keeps z (λ x. Sound z (x .board)) (step-sound z some-page) st sound c
-
--- and memory as long as it was
-pub range-memory-long : (z : Sizes) (st : State) (c : RangeCall) → length (rangeStep z st c .state .memory) ≡ length (st .memory)
-range-memory-long z st c = range-keeps z (λ x. length (x .memory) ≡ length (st .memory)) (λ x e d. memory-long z x d ∙ e) st refl c

@@ -174,8 +174,3 @@ module _ (z : Sizes) (live : List Bool) (f : Table) (len : length live ≡ z .sp
           let h′ : T (held (f k)) = rw (other k q) at h in
           let r = sound .rooted k h′ in
           record { pages = r .pages; is-line = was-line (r .is-line) h′; reaches = r .reaches; once = r .once }
-
-  -- the taker's line is the page and then the giver's line
-  pub line-taker : lineOf z (relink t (lentSlot s p r) f) t ≡ t ∷ lineOf z f (key z s p)
-  unfolding after
-  line-taker = line-unique (the-line z live (relink t (lentSlot s p r) f) len relink-sound t) taker-line

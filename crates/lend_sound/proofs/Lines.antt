@@ -76,7 +76,7 @@ module _ {z : Sizes} {f : Table} where
   line-computed {k} (climbs e a) (suc n) h = rw e (ap (λ (t : List ℕ). k ∷ t) (line-computed a n (le-of-suc-le-suc h)))
 
   -- a line begins with its page
-  pub line-head : {k : ℕ} {l : List ℕ} → Line z f k l → T (member k l)
+  line-head : {k : ℕ} {l : List ℕ} → Line z f k l → T (member k l)
   line-head {k} (ends e) = or-l (eqb k k) false (eqb-refl k)
   line-head {k} (climbs {l = l} e a) = or-l (eqb k k) (member k l) (eqb-refl k)
 
@@ -86,7 +86,7 @@ module _ {z : Sizes} {f : Table} where
   line-some (climbs e a) = omega arith
 
   -- where every parent is held, every page on a held page's line is
-  pub line-all-held : ((k q : ℕ) → parent z f k ≡ some q → T (held (f q))) → {k : ℕ} {l : List ℕ} → Line z f k l → T (held (f k)) → (q : ℕ) → T (member q l) → T (held (f q))
+  line-all-held : ((k q : ℕ) → parent z f k ≡ some q → T (held (f q))) → {k : ℕ} {l : List ℕ} → Line z f k l → T (held (f k)) → (q : ℕ) → T (member q l) → T (held (f q))
   line-all-held up {k} (ends e) h q m = go (or-cases (eqb k q) false m)
     where
       go : T (eqb k q) ⊎ ⊥ → T (held (f q))
@@ -300,10 +300,3 @@ module _ (z : Sizes) (live : List Bool) (f : Table) (len : length live ≡ z .sp
   frame-step k s p e =
       frame-fuel (the-line k) (z .spaces) (suc (z .spaces)) (line-fits k) (omega (arith, line-fits k))
       ∙ frame-climbs z f k (key z s p) (link-parent z f k s p e) (z .spaces)
-
-  -- a page of space 0 has the frame of its own number
-  pub frame-pool : (k : ℕ) → k < z .pages → frameOf z f k ≡ k
-  unfolding frame
-  frame-pool k h =
-      let a : Line z f k (k ∷ []) = ends (pool-top k h) in
-      frame-fuel a (z .spaces) 1 spaces-some (le-of-eq refl) ∙ rw (sound .pool k h)
