@@ -96,7 +96,8 @@ uint32_t lend_entry_start(uint8_t *image, size_t image_length, uint32_t out[4]);
 /* 1 where the image is a sound board's, else 0. */
 uint32_t lend_entry_sound(uint8_t *image, size_t image_length);
 
-/* out[0]: how many pages were held before the call and are empty after it. The other fields are 0. */
+/* out[0]: how many pages were held before the call and are empty after it. The other fields are 0. A grant leaves the giver's page
+ * empty, and all that was made from it, whichever rights were granted. */
 uint32_t lend_entry_create(uint8_t *image, size_t image_length, uint32_t space, uint32_t out[4]);
 uint32_t lend_entry_delete(uint8_t *image, size_t image_length, uint32_t space, uint32_t out[4]);
 uint32_t lend_entry_unmap(uint8_t *image, size_t image_length, uint32_t space, uint32_t page, uint32_t rights, uint32_t out[4]);
@@ -148,7 +149,8 @@ uint32_t lend_premium_start(uint8_t *image, size_t image_length, uint32_t out[4]
 /* 1 where the image is a sound board's, else 0. */
 uint32_t lend_premium_sound(uint8_t *image, size_t image_length);
 
-/* out[0]: how many pages were held before the call and are empty after it. The other fields are 0. */
+/* out[0]: how many pages were held before the call and are empty after it. The other fields are 0. A grant leaves the giver's page
+ * empty, and all that was made from it, whichever rights were granted. */
 uint32_t lend_premium_create(uint8_t *image, size_t image_length, uint32_t space, uint32_t out[4]);
 uint32_t lend_premium_delete(uint8_t *image, size_t image_length, uint32_t space, uint32_t out[4]);
 uint32_t lend_premium_unmap(uint8_t *image, size_t image_length, uint32_t space, uint32_t page, uint32_t rights, uint32_t out[4]);

@@ -13,7 +13,8 @@ ghost use Rattle.entry.specs.Sizes.{sizes};
 
 // The frame at the end of the line of page k, and the links to it. One turn visits one page of the line, and goes over one link.
 pub fn lookup(slots: [Slot; SLOTS], k: usize) -> Lookup
-    ensures { λ r. ⌜ r ≡ record { frame = frameOf sizes (slotAt slots) k; links = linksOf sizes (slotAt slots) k } ⌝ }
+    ensures frame { λ r. ⌜ r .frame ≡ frameOf sizes (slotAt slots) k ⌝ }
+    ensures links { λ r. ⌜ r .links ≡ linksOf sizes (slotAt slots) k ⌝ }
 {
     let mut at: usize = k;
     let mut over: u8 = 0;

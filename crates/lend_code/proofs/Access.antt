@@ -182,7 +182,7 @@ module _ (z : Sizes) (b : Tables) (space address rights : ℕ) where
           ap (λ (k : ℕ). cond (notLive b space) 4 (cond (badRights rights) 6 (fromSlot k)))
           (inside-key z space (addressPage address) (nleb→lt (z .spaces) space (rw es tt)) (page-in z address (nleb→lt (memoryBytes z) address (rw ea tt))))
 
-pub translate-number : (z : Sizes) (b : Tables) (space address rights : ℕ)
+translate-number : (z : Sizes) (b : Tables) (space address rights : ℕ)
     → accessNumber z b true space address rights ≡ number z (alone b) (Translate space address rights)
 unfolding accessNumber number cases
 translate-number z b space address rights = ap (λ (n : ℕ). cond (not (soundTest z b)) 1 n) (inside-number z b space address rights)
@@ -282,7 +282,7 @@ module _ (z : Sizes) (b : Tables) (sound : Sound z b) (space address rights : �
           omega arith
       go q i e (no l) = absurd (sound .pages .no-frame q i (omega arith) e)
 
-  pub accessible : Accessible z b space address
+  accessible : Accessible z b space address
   accessible = record {
     space-in = fine .space-in;
     page-in = page-in z address (fine .address-in);

@@ -64,7 +64,7 @@ hit-place z b sound space page h =
 
 -- ── a miss ───────────────────────────────────────────────────────────────
 -- a page that is not in the cache is named by no filled place
-pub miss-none : (space page : ℕ) (c : List Place) → cached space page c ≡ false → (i : ℕ) → T (filled (placeAt c i))
+miss-none : (space page : ℕ) (c : List Place) → cached space page c ≡ false → (i : ℕ) → T (filled (placeAt c i))
     → placeAt c i .space ≡ space → placeAt c i .page ≡ page → ⊥
 unfolding cached placeFor
 miss-none space page c e i t es ep =
@@ -78,7 +78,7 @@ miss-none space page c e i t es ep =
     omega arith
 
 -- a new entry goes to one of the places
-pub goes-in : (c : List Place) (next : ℕ) → next < length c → goesTo c next < length c
+goes-in : (c : List Place) (next : ℕ) → next < length c → goesTo c next < length c
 unfolding goesTo
 goes-in c next h = go (anyEmpty c) refl
   where
@@ -100,7 +100,7 @@ next-stays c next n len h = go (anyEmpty c)
     go false = turn (ltb (suc next) (length c)) refl
 
 -- an entry put in for a page that was not in the cache keeps the cache sound
-pub insert-sound : (z : Sizes) (f : Table) (c : List Place) (next : ℕ) (q : Place) → length c ≡ z .places → Names z f q → T (filled q)
+insert-sound : (z : Sizes) (f : Table) (c : List Place) (next : ℕ) (q : Place) → length c ≡ z .places → Names z f q → T (filled q)
     → cached (q .space) (q .page) c ≡ false → SoundCache z f c next → SoundCache z f (inserted c next q) (nextAfter c next)
 insert-sound z f c next q len n t miss sound = record {
   filled-names = λ i h. filled-names i h (ℕ-discrete i (goesTo c next));
@@ -149,7 +149,7 @@ page-in z address h = div-lt-iff-lt-mul (lit< tt) .1 l
     l = omega arith
 
 -- the entry of a held page names it
-pub entry-names : (z : Sizes) (b : Tables) → Sound z b → (space page : ℕ) → page < z .pages → T (held (tableOf b (key z space page)))
+entry-names : (z : Sizes) (b : Tables) → Sound z b → (space page : ℕ) → page < z .pages → T (held (tableOf b (key z space page)))
     → Names z (tableOf b) (entryOf z b space page)
 entry-names z b sound space page l h = record { space-in = in-spaces; page-in = l; is-held = h; its-frame = refl; its-rights = refl }
   where

@@ -19,7 +19,7 @@ use Rattle.lend.specs.Lending.{mapped, granted}
 use Rattle.lend.specs.Translate.{addressPage, physical, linksTo, hit, entryOf, withEntry, looked}
 use Rattle.lend.specs.Calls.{Call, Create, Delete, Unmap, Flush, Map, Grant, Translate, Load, Store, number, boardAfter, memoryAfter, report, Outcome, accept, refuse, step}
 use Rattle.lend_basics.proofs.Bools.{and-l, and-r, or-l, or-r}
-use Rattle.lend_laws.proofs.Accepted.{accepted, refused, delete-fine}
+use Rattle.lend_laws.proofs.Accepted.{accepted, refused, report-number, delete-fine}
 use Rattle.lend_laws.proofs.Emptied.{looked-slots, emptied-counts}
 use Rattle.lend_laws.proofs.Spaces.{out-of-pool}
 use Rattle.lend_lending.proofs.Map.{key-in, mapped-sound}
@@ -203,19 +203,6 @@ module _ (z w : Sizes) (fits : Fits z w) (some-page : 1 ≤ z .pages) (rest : Li
   byte-after (Load s a) h e = load-after s a h e
   byte-after (Store s a byte) h e = refl
 
-  -- every accepted call reports 0
-  number-after : (c : Call) → report w large c .number ≡ report z st c .number
-  unfolding report
-  number-after (Create s) = refl
-  number-after (Delete s) = refl
-  number-after (Unmap s p r) = refl
-  number-after (Flush s p r) = refl
-  number-after (Map s p u v r) = refl
-  number-after (Grant s p u v r) = refl
-  number-after (Translate s a r) = refl
-  number-after (Load s a) = refl
-  number-after (Store s a byte) = refl
-
   -- ── a step ─────────────────────────────────────────────────────────────
   module _ (sound-large : Sound w (grown z w rest st places next .board)) (c : Call) (h : T (inLimits z c))
       (more : T (takesMemory c) → length rest ≡ moreBytes z w) where
@@ -254,7 +241,7 @@ module _ (z w : Sizes) (fits : Fits z w) (some-page : 1 ≤ z .pages) (rest : Li
     agree-grown : Agree z w rest (step z st c) (step w (grown z w rest st places next) c)
     unfolding large
     agree-grown = record {
-      same-number = either (λ (x y : Outcome). y .reply .number ≡ x .reply .number) (λ e. number-after c) same-given;
+      same-number = either (λ (x y : Outcome). y .reply .number ≡ x .reply .number) (λ e. report-number w large c ∙ sym (report-number z st c)) same-given;
       same-emptied = emptied-after;
       same-address = either (λ (x y : Outcome). y .reply .address ≡ x .reply .address) (λ e. address-after c h) refl;
       same-links = either (λ (x y : Outcome). y .reply .links ≡ x .reply .links) (λ e. links-after c h e) refl;

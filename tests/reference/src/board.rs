@@ -1,4 +1,4 @@
-//! The model of the board: 01 read straight, with no thought for speed.
+//! The model of the board: 01 as 02 amends it, read straight, with no thought for speed.
 
 use crate::calls::{Call, Lending, Refusal, Reply, Withdrawal, ALL_RIGHTS, READ, WRITE};
 use crate::sizes::{Sizes, PAGE_BYTES};
@@ -484,11 +484,12 @@ impl Board {
         Ok(self.count_emptied(|board| board.link_step(&deal)))
     }
 
+    /// The giver's page is flushed of all rights, whichever were granted (M-103).
     pub fn grant(&mut self, asked: &Lending) -> Result<u32, Refusal> {
         let deal = self.judge_lending(asked, Way::Grant)?;
         Ok(self.count_emptied(|board| {
             board.link_step(&deal);
-            board.flush_step(deal.giver, deal.rights);
+            board.flush_step(deal.giver, ALL_RIGHTS);
         }))
     }
 
@@ -707,9 +708,25 @@ pub mod tests {
     fn example_10_grant_of_a_part_of_the_rights() {
         for sizes in Sizes::MODELS {
             let mut board = board_k(sizes);
-            assert_eq!(board.grant(&lending((2, 3), (4, 0), 2)), Ok(1));
-            let mut expected = k_with(sizes, &[(2, 3, 4), (3, 1, 0)]);
+            assert_eq!(board.grant(&lending((2, 3), (4, 0), 2)), Ok(2));
+            let mut expected = k_with(sizes, &[(2, 3, 0), (3, 1, 0)]);
             link(&mut expected, (4, 0), (1, 0), 2);
+            assert_eq!(board, expected);
+        }
+    }
+
+    /// Also a page below the giver with none of the granted rights goes, and each entry with it.
+    #[test]
+    fn a_grant_of_a_part_takes_every_right_from_giver_and_below() {
+        for sizes in Sizes::MODELS {
+            let mut board = board_k(sizes);
+            for (space, page, right) in [(1, 0, 4), (2, 3, 4), (3, 1, 2)] {
+                board.translate(space, 1024 * page, right).unwrap();
+            }
+            assert_eq!(board.grant(&lending((2, 3), (4, 0), 4)), Ok(2), "(3,1) has only 2");
+            let mut expected = k_with(sizes, &[(2, 3, 0), (3, 1, 0)]);
+            link(&mut expected, (4, 0), (1, 0), 4);
+            expected.cache.places[0] = Place { space: 1, page: 0, frame: 5, rights: 7 };
             assert_eq!(board, expected);
         }
     }
@@ -742,11 +759,14 @@ pub mod tests {
     #[test]
     fn a_taker_below_the_giver_keeps_what_it_was_given() {
         for sizes in Sizes::MODELS {
-            let mut board = board_k(sizes);
-            assert_eq!(board.grant(&lending((2, 3), (3, 1), 6)), Ok(1));
-            assert_eq!(board.slot(spot(3, 1)), Slot { link: Link::Page(spot(1, 0)), rights: 6 });
-            assert!(!board.held(spot(2, 3)));
-            assert!(board.sound());
+            for rights in [6, 4, 2] {
+                let mut board = board_k(sizes);
+                assert_eq!(board.grant(&lending((2, 3), (3, 1), rights)), Ok(1));
+                let mut expected = k_with(sizes, &[(2, 3, 0)]);
+                link(&mut expected, (3, 1), (1, 0), rights as u8);
+                assert_eq!(board, expected);
+                assert!(board.sound());
+            }
         }
     }
 

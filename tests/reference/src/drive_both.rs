@@ -197,7 +197,7 @@ impl<'a> Both<'a> {
     fn count(&mut self, before: &Pair, after: &Pair, call: &Call, reply: &Reply) {
         let (entry, premium) = before.boards().expect("the boards of a pair");
         let (board, _) = after.boards().expect("the boards of a pair");
-        self.tally.record(call, reply, entry.cache.next, &board);
+        self.tally.record(call, reply, &entry, &board);
         if let (Some(page), 0) = (translated(call), reply.number) {
             self.hits.count(before.replaced, has(&entry.cache, page), has(&premium.cache, page));
         }
@@ -398,9 +398,10 @@ mod tests {
     }
 
     /// The faults that show on sound boards, with memory of the right length, before an entry is replaced.
-    const SEEN_HERE: [Fault; 18] = [
+    const SEEN_HERE: [Fault; 19] = [
         Fault::GrantSparesBelow,
-        Fault::GrantTakesAll,
+        Fault::GrantTakesGranted,
+        Fault::GrantTakesGrantedBelow,
         Fault::GrantLinksToGiver,
         Fault::GrantCutsOldLines,
         Fault::DirectChildrenOnly,

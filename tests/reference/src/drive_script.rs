@@ -91,9 +91,9 @@ fn tallied_answer(sizes: Sizes, input: &[u8], tally: &mut Tally) -> Vec<u8> {
         sizes,
         input,
         |board, call| {
-            let next = board.cache.next;
+            let before = board.clone();
             let reply = board.play(&mut [], call);
-            tally.record(call, &reply, next, board);
+            tally.record(call, &reply, &before, board);
             reply
         },
         |_| malformed += 1,

@@ -58,7 +58,11 @@ impl Tally {
     /// Counts the answer to a call.
     pub fn count(&mut self, call: &Call, reply: &Reply) {
         self.answers[call.kind() as usize][reply.number as usize] += 1;
-        for corner in Corner::reached(self.sizes, call, reply) {
+        self.count_corners(Corner::reached(self.sizes, call, reply));
+    }
+
+    fn count_corners(&mut self, reached: Vec<Corner>) {
+        for corner in reached {
             *self.corners.entry(corner).or_default() += 1;
         }
     }
@@ -72,12 +76,13 @@ impl Tally {
         *self.named.entry(name).or_default() += 1;
     }
 
-    /// Counts the answer to a call and looks at the board after it. `next` is the next place before the call.
-    pub fn record(&mut self, call: &Call, reply: &Reply, next: usize, board: &Board) {
+    /// Counts the answer to a call and looks at the boards before and after it.
+    pub fn record(&mut self, call: &Call, reply: &Reply, before: &Board, board: &Board) {
         self.count(call, reply);
         if reply.number != 0 {
             return;
         }
+        self.count_corners(Corner::of_grant(before, call));
         match call {
             Call::Map(_) | Call::Grant(_) => {
                 let deepest = board.lent_pages().map(|page| board.line(page).count()).max();
@@ -90,7 +95,7 @@ impl Tally {
         if let Some(address) = call.address() {
             let page = spot(call.spaces()[0] as usize, address as usize / PAGE_BYTES);
             self.lines[board.line(page).count() - 1] += 1;
-            self.replaced[next] += (next != board.cache.next) as u64;
+            self.replaced[before.cache.next] += (before.cache.next != board.cache.next) as u64;
         }
     }
 
@@ -102,6 +107,7 @@ impl Tally {
             missing.push(format!("a malformed line: {MALFORMED}"));
         }
         missing.extend(self.missing_corners(&Corner::OF_ONE_PAGE));
+        missing.extend(self.missing_corners(&Corner::OF_GRANTS));
         missing.extend(self.missing_translations());
         missing
     }
@@ -110,14 +116,18 @@ impl Tally {
         let mut missing = self.missing(Kind::LIBRARY, |_| true);
         missing.extend(self.missing(&[Kind::Sound], |_| true));
         missing.extend(self.missing_corners(&Corner::OF_ONE_PAGE));
+        missing.extend(self.missing_corners(&Corner::OF_GRANTS));
         missing.extend(self.missing_corners(&Corner::OF_RANGES));
+        missing.extend(self.missing_corners(&[Corner::RangeGrantOfPart]));
         missing.extend(self.missing_translations());
         missing
     }
 
     /// Of calls for one page on sound boards with memory of the right length.
     pub fn missing_of_one_page(&self) -> Vec<String> {
-        self.missing(Kind::ONE_PAGE, |number| number > 2 || number == 0)
+        let mut missing = self.missing(Kind::ONE_PAGE, |number| number > 2 || number == 0);
+        missing.extend(self.missing_corners(&Corner::OF_GRANTS));
+        missing
     }
 
     fn missing(&self, kinds: &[Kind], possible: impl Fn(u32) -> bool) -> Vec<String> {

@@ -10,8 +10,10 @@ use crate::sizes::Sizes;
 pub enum Fault {
     /// Grant takes no right from the pages below the giver.
     GrantSparesBelow,
-    /// Grant takes all rights from the giver.
-    GrantTakesAll,
+    /// Grant takes from the giver the rights that were granted, and no more: 01 as it was before M-103.
+    GrantTakesGranted,
+    /// Grant empties the giver, and takes from the pages below it only the rights that were granted.
+    GrantTakesGrantedBelow,
     /// Grant links the taker to the giver.
     GrantLinksToGiver,
     /// Grant cuts the pages that were below the giver before the taker was linked anew.
@@ -70,9 +72,10 @@ impl Fault {
         Fault::LateFourteen,
     ];
 
-    pub const ALL: [Fault; 25] = [
+    pub const ALL: [Fault; 26] = [
         Fault::GrantSparesBelow,
-        Fault::GrantTakesAll,
+        Fault::GrantTakesGranted,
+        Fault::GrantTakesGrantedBelow,
         Fault::GrantLinksToGiver,
         Fault::GrantCutsOldLines,
         Fault::DirectChildrenOnly,
@@ -97,6 +100,20 @@ impl Fault {
         Fault::UnusedBytesPass,
         Fault::OutLeftAlone,
     ];
+}
+
+impl Fault {
+    /// True for the faults of what an accepted grant does.
+    fn changes_grant(self) -> bool {
+        matches!(
+            self,
+            Fault::GrantSparesBelow
+                | Fault::GrantTakesGranted
+                | Fault::GrantTakesGrantedBelow
+                | Fault::GrantLinksToGiver
+                | Fault::GrantCutsOldLines
+        )
+    }
 }
 
 /// A model with a fault.
@@ -130,26 +147,9 @@ fn tidy(sizes: Sizes, bytes: &mut [u8]) {
 /// The call as the faulty model makes it.
 fn play(fault: Fault, board: &mut Board, memory: &mut [u8], call: &Call) -> Reply {
     let faulty = match (fault, *call) {
-        (Fault::GrantSparesBelow, Call::Grant(asked)) => change_lending(board, &asked, Way::Grant, |board, deal| {
-            board.link_step(deal);
-            board.lose(deal.giver, deal.rights);
-        }),
-        (Fault::GrantTakesAll, Call::Grant(asked)) => change_lending(board, &asked, Way::Grant, |board, deal| {
-            board.link_step(deal);
-            board.flush_step(deal.giver, ALL_RIGHTS);
-        }),
-        (Fault::GrantLinksToGiver, Call::Grant(asked)) => change_lending(board, &asked, Way::Grant, |board, deal| {
-            board.link_step(&Deal { source: deal.giver, ..*deal });
-            board.lose(deal.giver, deal.rights);
-        }),
-        (Fault::GrantCutsOldLines, Call::Grant(asked)) => change_lending(board, &asked, Way::Grant, |board, deal| {
-            let below: Vec<Spot> = board.pages_below(deal.giver).collect();
-            board.link_step(deal);
-            for page in below {
-                board.lose(page, deal.rights);
-            }
-            board.lose(deal.giver, deal.rights);
-        }),
+        (_, Call::Grant(asked)) if fault.changes_grant() => {
+            change_lending(board, &asked, Way::Grant, |board, deal| wrong_grant(fault, board, deal))
+        }
         (Fault::DirectChildrenOnly, Call::Unmap(asked)) => direct_unmap(board, &asked),
         (Fault::CacheKeptBelow, Call::Flush(asked)) => cache_kept_below(board, &asked),
         (Fault::CacheDroppedForNothing, Call::Unmap(asked)) => cache_dropped(board, &asked),
@@ -212,6 +212,22 @@ fn reply(answer: Result<u32, Refusal>) -> Option<Reply> {
 fn change_lending(board: &mut Board, asked: &Lending, way: Way, change: impl FnOnce(&mut Board, &Deal)) -> Option<Reply> {
     let deal = board.judge_lending(asked, way);
     reply(deal.map(|deal| board.count_emptied(|board| change(board, &deal))))
+}
+
+/// What an accepted grant does with a fault of it.
+fn wrong_grant(fault: Fault, board: &mut Board, deal: &Deal) {
+    let old_below: Vec<Spot> = board.pages_below(deal.giver).collect();
+    let source = if fault == Fault::GrantLinksToGiver { deal.giver } else { deal.source };
+    board.link_step(&Deal { source, ..*deal });
+    match fault {
+        Fault::GrantTakesGranted => board.flush_step(deal.giver, deal.rights),
+        Fault::GrantTakesGrantedBelow => board.unmap_step(deal.giver, deal.rights),
+        Fault::GrantCutsOldLines => old_below.into_iter().for_each(|page| board.lose(page, ALL_RIGHTS)),
+        _ => (),
+    }
+    if fault != Fault::GrantTakesGranted {
+        board.lose(deal.giver, ALL_RIGHTS);
+    }
 }
 
 fn direct_unmap(board: &mut Board, asked: &Withdrawal) -> Option<Reply> {

@@ -51,7 +51,7 @@ returns c =
     let at-parent = c .before .before .before in
     let at-loop = at-parent .before .before .before in
     let end = climbing-ends sizes _ _ _ _ _ (at-parent .parent .result) (at-loop .loop .inv) (at-parent .parent .ensures) (c .before .before .if1 .taken) in
-    λ i. record { frame = (c .before .frame-in .ensures ∙ end .0) i; links = (ap (λ (n : ℕ). at-loop .loop .over + n) (c .link-in .ensures) ∙ end .1) i }
+    (c .before .frame-in .ensures ∙ end .0, ap (λ (n : ℕ). at-loop .loop .over + n) (c .link-in .ensures) ∙ end .1)
 
 add-over : tie.Need-add-over Inv-loop μ-loop
 add-over c = omega (arith, c .before .before .before .before .loop .inv .visited, c .before .before .before .before .loop .inv .some-left)
@@ -68,9 +68,7 @@ loop-again c =
     climbing-up sizes _ _ _ _ _ (c .before .parent .result) (at-loop .loop .inv) (c .before .parent .ensures) (c .if1 .left)
 
 returns-2 : tie.Need-returns-2 Inv-loop μ-loop
-returns-2 c =
-    let end = climbing-past sizes _ _ _ _ _ (c .before .loop .inv) (c .loop-test .left) in
-    λ i. record { frame = end .0 i; links = end .1 i }
+returns-2 c = climbing-past sizes _ _ _ _ _ (c .before .loop .inv) (c .loop-test .left)
 
 pub lookup-spec : {M : Type 1} → statement M
 lookup-spec =

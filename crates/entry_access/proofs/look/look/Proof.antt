@@ -8,9 +8,8 @@ use borrow.Author.Needs.{needs}
 use Rattle.lend.specs.declared.Place.{Place}
 use Rattle.lend.specs.Slots.{slotAt}
 use Rattle.lend_code.proofs.Fits.{inside-in}
-use Rattle.lend_code.proofs.Access.{Reached, look-hit, look-miss}
+use Rattle.lend_code.proofs.Access.{look-hit, look-miss}
 use Rattle.entry.specs.declared.Found.{Found}
-use Rattle.entry.specs.declared.lines.Lookup.{Lookup}
 use Rattle.entry.specs.Sizes.{sizes}
 use Rattle.entry.specs.Board.{tables}
 use Rattle.entry.specs.Cache.{insertIn}
@@ -23,10 +22,6 @@ key-requires c κs = search needs
 lookup-requires : tie.Need-lookup-requires
 lookup-requires c κs = search needs
 
--- what the walk has come to
-reached : (c : tie.After-lookup) → Reached sizes (tables (c .before .before .before .args .b) .slots) (c .before .key .result) (c .lookup .result .frame) (c .lookup .result .links)
-reached c = (ap (λ (l : Lookup). l .frame) (c .lookup .ensures), ap (λ (l : Lookup). l .links) (c .lookup .ensures))
-
 find-requires : tie.Need-find-requires
 find-requires c κs = search needs
 
@@ -36,7 +31,7 @@ returns c =
     let at-lookup = at-find .before .before in
     let a = at-lookup .before .before .before .args in
     look-hit sizes (tables (a .b)) (a .space) (a .page) (at-find .find .result .hit) (ap (λ (f : Found). f .hit) (at-find .find .ensures))
-    (at-lookup .before .key .result) (at-lookup .lookup .result .frame) (at-lookup .lookup .result .links) (at-lookup .before .key .ensures) (reached at-lookup)
+    (at-lookup .before .key .result) (at-lookup .lookup .result .frame) (at-lookup .lookup .result .links) (at-lookup .before .key .ensures) (at-lookup .lookup .ensures)
     (at-find .find .result .place) (ap (λ (f : Found). f .place) (at-find .find .ensures)) (c .before .if1 .taken)
 
 inside-requires : tie.Need-inside-requires
@@ -67,7 +62,7 @@ returns-2 c =
       hit = false;
     })
     ∙ look-miss sizes (tables (a .b)) (a .space) (a .page) (at-find .find .result .hit) (ap (λ (f : Found). f .hit) (at-find .find .ensures))
-    (at-lookup .before .key .result) (end .frame) (end .links) (at-lookup .before .key .ensures) (reached at-lookup)
+    (at-lookup .before .key .result) (end .frame) (end .links) (at-lookup .before .key .ensures) (at-lookup .lookup .ensures)
     (at-inside .inside .result) (at-inside .inside .ensures) (at-inside .before .if1 .left)
 
 pub look-spec : {M : Type 1} → statement M
