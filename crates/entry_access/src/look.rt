@@ -40,6 +40,7 @@ pub fn look(mut b: Board, space: u8, page: u8) -> Seen
         };
     }
     let frame = end.frame;
+    let links = end.links;
     let slot = slots[inside(k)];
     let rights = slot.rights;
     let kept = found.cache;
@@ -52,7 +53,7 @@ pub fn look(mut b: Board, space: u8, page: u8) -> Seen
     Seen {
         board: b,
         frame,
-        links: end.links,
+        links,
         hit: false,
     }
 }
