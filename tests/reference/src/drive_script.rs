@@ -369,7 +369,7 @@ mod tests {
         let report = report(Sizes::ENTRY, &mut program, 5, &difference.unwrap());
         assert!(report.contains("no line can be left out"), "{report}");
         assert!(report.contains("answer=14") && report.contains("answer=15"), "{report}");
-        assert!(report.lines().count() < 20, "{report}");
+        assert!(report.lines().count() < 30, "{report}");
     }
 
     #[test]

@@ -60,6 +60,14 @@ pub enum Fault {
     UnusedBytesPass,
     /// Out fields are left at what they were after a refusal.
     OutLeftAlone,
+    /// The number of links does not count the one to the frame.
+    LinksWithoutFrame,
+    /// A hit follows no link, and says so.
+    HitWithoutLinks,
+    /// A translation that is refused with 12 says how many links it followed.
+    RefusalSaysLinks,
+    /// load says how many links it followed.
+    LoadSaysLinks,
 }
 
 impl Fault {
@@ -72,7 +80,7 @@ impl Fault {
         Fault::LateFourteen,
     ];
 
-    pub const ALL: [Fault; 26] = [
+    pub const ALL: [Fault; 30] = [
         Fault::GrantSparesBelow,
         Fault::GrantTakesGranted,
         Fault::GrantTakesGrantedBelow,
@@ -99,6 +107,10 @@ impl Fault {
         Fault::RingsPass,
         Fault::UnusedBytesPass,
         Fault::OutLeftAlone,
+        Fault::LinksWithoutFrame,
+        Fault::HitWithoutLinks,
+        Fault::RefusalSaysLinks,
+        Fault::LoadSaysLinks,
     ];
 }
 
@@ -199,6 +211,10 @@ fn play(fault: Fault, board: &mut Board, memory: &mut [u8], call: &Call) -> Repl
             reply.out[0] += (reply.number == 5) as u32;
             Some(reply)
         }
+        (Fault::LinksWithoutFrame | Fault::HitWithoutLinks | Fault::RefusalSaysLinks, Call::Translate { .. }) => {
+            Some(wrong_links(fault, board, memory, call))
+        }
+        (Fault::LoadSaysLinks, Call::Load { .. }) => Some(wrong_links(fault, board, memory, call)),
         _ => None,
     };
     faulty.unwrap_or_else(|| board.play(memory, call))
@@ -361,6 +377,22 @@ fn load_asks_nothing(board: &mut Board, memory: &mut [u8], space: u32, address: 
     let rights = board.slot(page).rights as u32;
     let found = board.translate(space, address, rights).expect("the page is held");
     Some(Reply::done(memory[found.address] as u32, 0))
+}
+
+/// The right answer but for the number of links.
+fn wrong_links(fault: Fault, board: &mut Board, memory: &mut [u8], call: &Call) -> Reply {
+    let mut reply = board.play(memory, call);
+    let followed = |board: &Board| {
+        let page = spot(call.spaces()[0] as usize, call.address().unwrap_or(0) as usize / 1024);
+        board.links(page) as u32
+    };
+    match (fault, reply.number) {
+        (Fault::LinksWithoutFrame, 0) => reply.out[2] -= 1,
+        (Fault::HitWithoutLinks, 0) => reply.out[2] *= 1 - reply.out[1],
+        (Fault::RefusalSaysLinks, 12) | (Fault::LoadSaysLinks, 0) => reply.out[2] = followed(board),
+        _ => (),
+    }
+    reply
 }
 
 /// The board without the pages whose lines do not reach space 0.
