@@ -374,7 +374,7 @@ pub fn grant_sound<T: Tables>(b: &mut T, from: u32, page: u32, to: u32, at: u32,
     let source = parent(b, giver).ok_or(Refusal::Empty)?;
     check_lines(b, giver, source, taker)?;
     let emptied = relink(b, source, taker, rights);
-    Ok(emptied + flush_page(b, giver, rights as u8))
+    Ok(emptied + flush_page(b, giver, ALL))
 }
 
 /// Translates a page that is known to be held, and moves the cache.
