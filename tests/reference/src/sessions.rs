@@ -792,8 +792,8 @@ fn limits(sizes: Sizes) -> String {
     text
 }
 
-/// A line through every space, each of its pages translated, as a miss and as a hit; then so many pages of the pool that every place of the cache is
-/// filled and replaced, and the line taken back from its top.
+/// A line through every space, each of its pages translated, as a miss and as a hit; then so many pages of the pool that every
+/// place of the cache is filled and replaced, and the line taken back from its top.
 fn longest_line(sizes: Sizes) -> String {
     let mut text: String = (2..sizes.spaces).map(|space| format!("op=create space={space}\n")).collect();
     for space in 1..sizes.spaces {
