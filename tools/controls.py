@@ -54,7 +54,8 @@ def tried(top, crate, texts):
     lines = run.stdout.split('\n')
     if run.returncode == 0:
         return 'proved', ''
-    first = next((line for line in lines if ': error' in line), lines[0]).replace(f'{top}/', '')
+    # of a function that rattle proves by itself the word is a note
+    first = next((line for line in lines if ': error: ' in line or 'it is not proved' in line), lines[0]).replace(f'{top}/', '')
     return ('refused' if 'logic=not-proved' in lines else 'BROKEN'), f': {first[:CUT]}'
 
 
