@@ -161,7 +161,8 @@ uint32_t lend_premium_map(uint8_t *image, size_t image_length, uint32_t from, ui
 uint32_t lend_premium_grant(uint8_t *image, size_t image_length, uint32_t from, uint32_t page, uint32_t to, uint32_t at,
     uint32_t rights, uint32_t out[4]);
 
-/* out[0]: the physical address. out[1]: 1 where the page was in the cache. */
+/* out[0]: the physical address. out[1]: 1 where the page was in the cache. out[2]: how many links lead from the page to its frame, the one
+ * to the frame included: at least 1, at most the number of live spaces, and the same whether the page was in the cache or not. */
 uint32_t lend_premium_translate(uint8_t *image, size_t image_length, uint32_t space, uint32_t address, uint32_t rights,
     uint32_t out[4]);
 

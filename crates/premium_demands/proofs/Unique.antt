@@ -37,9 +37,9 @@ one-board = one-result tables boardOf boardOf-tables
 pub one-told : {z : Sizes} {b : Tables} {r s : Bool} → Tells z b r → Tells z b s → r ≡ s
 one-told v w = v .as-test ∙ sym (w .as-test)
 
--- `lookup`, whose contract gives the frame: there is no other field
-pub one-lookup : {meaning : ℕ} {r s : Lookup} → r .frame ≡ meaning → s .frame ≡ meaning → r ≡ s
-one-lookup = one-result (λ (x : Lookup). x .frame) (λ n. record { frame = n }) (λ x. refl)
+-- `lookup`, whose contract gives the frame and the links: there is no other field
+pub one-lookup : {end far : ℕ} {r s : Lookup} → r .frame ≡ end → r .links ≡ far → s .frame ≡ end → s .links ≡ far → r ≡ s
+one-lookup rf rl sf sl = λ i. record { frame = (rf ∙ sym sf) i; links = (rl ∙ sym sl) i }
 
 -- a call whose contract is `outcome r ≡ ..`
 pub one-answer : {meaning : Outcome} {r s : Answer} → outcome r ≡ meaning → outcome s ≡ meaning → r ≡ s
