@@ -13,6 +13,7 @@ use Rattle.lend.specs.Tables.{Tables, State}
 use Rattle.lend.specs.SoundTest.{soundTest}
 use Rattle.lend.specs.Start.{startBoard}
 use Rattle.lend.specs.Calls.{Call, Create, Delete, Unmap, Flush, Map, Grant, Translate, Load, Store, Outcome, plainReply, report, step, number}
+use Rattle.lend_laws.proofs.Accepted.{report-number}
 use Rattle.image.specs.Image.{imageOf, imageBytes, isImage, boardFrom, written}
 use Rattle.lend.specs.Ranges.{RangeCall, RangeOutcome, rangeNumber, rangeStep}
 use Rattle.image.specs.Answered.{given, outOf, Left, left, leftBy, answerTo, startAnswer, finishing, soundNumber, threeOf, rangeLeftBy, rangeAnswerTo, rangeFinishing}
@@ -87,18 +88,6 @@ out-none (Translate space address rights) n = refl
 out-none (Load space address) n = refl
 out-none (Store space address byte) n = refl
 
-report-done : (z : Sizes) (st : State) (call : Call) → report z st call .number ≡ 0
-unfolding report
-report-done z st (Create space) = refl
-report-done z st (Delete space) = refl
-report-done z st (Unmap space page rights) = refl
-report-done z st (Flush space page rights) = refl
-report-done z st (Map from page to at rights) = refl
-report-done z st (Grant from page to at rights) = refl
-report-done z st (Translate space address rights) = refl
-report-done z st (Load space address) = refl
-report-done z st (Store space address byte) = refl
-
 module _ (z : Sizes) (call : Call) (image memory : List ℕ) where
   refused-by : (n : ℕ) → number z (given z image memory) call ≡ n → (n ≡ 0 → ⊥) → answerTo z call image memory ≡ left n image memory (threeOf 0 0 0)
   unfolding answerTo step
@@ -112,7 +101,7 @@ module _ (z : Sizes) (call : Call) (image memory : List ℕ) where
       go : Dec (number z (given z image memory) call ≡ 0) → answerTo z call image memory ≡ left n image memory (threeOf 0 0 0)
       go (yes q) =
           let done : report z (given z image memory) call .number ≡ n = rw (eq-eqb (number z (given z image memory) call) 0 q) at e in
-          absurd (h (sym done ∙ report-done z (given z image memory) call))
+          absurd (h (sym done ∙ report-number z (given z image memory) call))
       go (no q) =
           let refused : number z (given z image memory) call ≡ n = rw (ne-eqb (number z (given z image memory) call) 0 q) at e in
           refused-by n refused h
