@@ -109,7 +109,8 @@ uint32_t lend_entry_write_listing(uint8_t *image, size_t image_length, uint8_t *
  * where the image has another length. */
 uint32_t lend_entry_read_listing(uint8_t *image, size_t image_length, uint8_t *text, size_t text_length, uint32_t out[4]);
 
-/* out[0]: how many pages were held before the call and are empty after it. The other fields are 0. */
+/* out[0]: how many pages were held before the call and are empty after it. The other fields are 0. A grant leaves the giver's page
+ * empty, and all that was made from it, whichever rights were granted. */
 uint32_t lend_entry_create(uint8_t *image, size_t image_length, uint32_t space, uint32_t out[4]);
 uint32_t lend_entry_delete(uint8_t *image, size_t image_length, uint32_t space, uint32_t out[4]);
 uint32_t lend_entry_unmap(uint8_t *image, size_t image_length, uint32_t space, uint32_t page, uint32_t rights, uint32_t out[4]);
@@ -119,7 +120,8 @@ uint32_t lend_entry_map(uint8_t *image, size_t image_length, uint32_t from, uint
 uint32_t lend_entry_grant(uint8_t *image, size_t image_length, uint32_t from, uint32_t page, uint32_t to, uint32_t at,
     uint32_t rights, uint32_t out[4]);
 
-/* out[0]: the physical address. out[1]: 1 where the page was in the cache. */
+/* out[0]: the physical address. out[1]: 1 where the page was in the cache. out[2]: how many links lead from the page to its frame, the one
+ * to the frame included: at least 1, at most the number of live spaces, and the same whether the page was in the cache or not. */
 uint32_t lend_entry_translate(uint8_t *image, size_t image_length, uint32_t space, uint32_t address, uint32_t rights,
     uint32_t out[4]);
 
@@ -169,7 +171,8 @@ uint32_t lend_premium_write_listing(uint8_t *image, size_t image_length, uint8_t
  * where the image has another length. */
 uint32_t lend_premium_read_listing(uint8_t *image, size_t image_length, uint8_t *text, size_t text_length, uint32_t out[4]);
 
-/* out[0]: how many pages were held before the call and are empty after it. The other fields are 0. */
+/* out[0]: how many pages were held before the call and are empty after it. The other fields are 0. A grant leaves the giver's page
+ * empty, and all that was made from it, whichever rights were granted. */
 uint32_t lend_premium_create(uint8_t *image, size_t image_length, uint32_t space, uint32_t out[4]);
 uint32_t lend_premium_delete(uint8_t *image, size_t image_length, uint32_t space, uint32_t out[4]);
 uint32_t lend_premium_unmap(uint8_t *image, size_t image_length, uint32_t space, uint32_t page, uint32_t rights, uint32_t out[4]);
@@ -179,7 +182,8 @@ uint32_t lend_premium_map(uint8_t *image, size_t image_length, uint32_t from, ui
 uint32_t lend_premium_grant(uint8_t *image, size_t image_length, uint32_t from, uint32_t page, uint32_t to, uint32_t at,
     uint32_t rights, uint32_t out[4]);
 
-/* out[0]: the physical address. out[1]: 1 where the page was in the cache. */
+/* out[0]: the physical address. out[1]: 1 where the page was in the cache. out[2]: how many links lead from the page to its frame, the one
+ * to the frame included: at least 1, at most the number of live spaces, and the same whether the page was in the cache or not. */
 uint32_t lend_premium_translate(uint8_t *image, size_t image_length, uint32_t space, uint32_t address, uint32_t rights,
     uint32_t out[4]);
 

@@ -1,4 +1,4 @@
-/* A board of each model in one program: the same lendings on both, with the number and the first two out fields that came back from
+/* A board of each model in one program: the same lendings on both, with the number and the first three out fields that came back from
  * the entry model and from the premium model. */
 #include "lend.h"
 
@@ -14,8 +14,9 @@ static uint32_t out[4], premium_out[4];
 
 static void answer(const char *call, uint32_t number, uint32_t premium_number)
 {
-    printf("%-48s entry %2u %5u %u   premium %2u %5u %u\n", call, (unsigned)number, (unsigned)out[0], (unsigned)out[1],
-           (unsigned)premium_number, (unsigned)premium_out[0], (unsigned)premium_out[1]);
+    printf("%-48s entry %2u %5u %u %u   premium %2u %5u %u %u\n", call, (unsigned)number, (unsigned)out[0], (unsigned)out[1],
+           (unsigned)out[2], (unsigned)premium_number, (unsigned)premium_out[0], (unsigned)premium_out[1],
+           (unsigned)premium_out[2]);
 }
 
 int main(void)

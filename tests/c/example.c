@@ -64,6 +64,11 @@ static void take_back(void)
     answer("grant 2:7 to 1:6, read, back to space 1", CALL(grant)(image, sizeof image, 2, 7, 1, 6, LEND_READ, out));
     answer("create space 3", CALL(create)(image, sizeof image, 3, out));
     answer("grant 2:7 to 3:0, read", CALL(grant)(image, sizeof image, 2, 7, 3, 0, LEND_READ, out));
+    answer("map 1:5 to 2:7, read and write",
+           CALL(map)(image, sizeof image, 1, 5, 2, 7, LEND_READ + LEND_WRITE, out));
+    answer("grant 2:7 to 3:0, read: the page goes whole", CALL(grant)(image, sizeof image, 2, 7, 3, 0, LEND_READ, out));
+    answer("store through 2:7, which gave its page away",
+           CALL(store)(image, sizeof image, memory, sizeof memory, 2, address, 43, out));
     answer("delete space 3", CALL(delete)(image, sizeof image, 3, out));
     answer("map 1:5 to 2:7, read", CALL(map)(image, sizeof image, 1, 5, 2, 7, LEND_READ, out));
     answer("flush 1:5, all rights", CALL(flush)(image, sizeof image, 1, 5, LEND_ALL, out));

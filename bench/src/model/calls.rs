@@ -24,7 +24,7 @@ macro_rules! each_call {
         $make!(grant, |b, _memory, n, out| super::calls::answer(super::plain::grant(b, n[0], n[1], n[2], n[3], n[4]), out));
         $make!(translate, |b, _memory, n, out| {
             let answer = super::plain::translate(b, n[0], n[1], n[2]);
-            out[1] = answer.map_or(0, |found| u32::from(found.hit));
+            out[1..3].copy_from_slice(&answer.map_or([0, 0], |found| [u32::from(found.hit), found.links]));
             super::calls::answer(answer.map(|found| found.address), out)
         });
         $make!(load, |b, memory, n, out| super::calls::answer(super::plain::load(b, memory, n[0], n[1]).map(u32::from), out));

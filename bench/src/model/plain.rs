@@ -81,6 +81,7 @@ pub trait Tables {
 pub struct Translation {
     pub address: u32,
     pub hit: bool,
+    pub links: u32,
 }
 
 pub fn refuse_if(holds: bool, refusal: Refusal) -> Result<(), Refusal> {
@@ -374,37 +375,66 @@ pub fn grant_sound<T: Tables>(b: &mut T, from: u32, page: u32, to: u32, at: u32,
     let source = parent(b, giver).ok_or(Refusal::Empty)?;
     check_lines(b, giver, source, taker)?;
     let emptied = relink(b, source, taker, rights);
-    Ok(emptied + flush_page(b, giver, rights as u8))
+    Ok(emptied + flush_page(b, giver, ALL))
 }
 
-/// Translates a page that is known to be held, and moves the cache.
+/// Translates a page that is known to be held, and moves the cache: a load or a store that hits does not follow the page's line.
 fn look_up<T: Tables>(b: &mut T, page: usize) -> (u8, bool) {
     if let Some(place) = find(b, page) {
         return (place.frame, true);
     }
     let frame = frame(b, page).unwrap_or(0);
-    insert(b, Place { space: (page / PAGES) as u8, page: (page % PAGES) as u8, frame, rights: b.slot(page).rights });
+    enter(b, page, frame);
     (frame, false)
 }
 
-pub fn translate<T: Tables>(b: &mut T, space: u32, address: u32, rights: u32) -> Result<Translation, Refusal> {
+/// Puts the entry of a page into the cache.
+fn enter<T: Tables>(b: &mut T, page: usize, frame: u8) {
+    insert(b, Place { space: (page / PAGES) as u8, page: (page % PAGES) as u8, frame, rights: b.slot(page).rights });
+}
+
+/// A translation tells how many links lead to the frame, so it follows the line whether it hits or not.
+fn look_far<T: Tables>(b: &mut T, page: usize) -> (u8, bool, u32) {
+    let (links, last) = line(b, page).fold((0, page), |(links, _), at| (links + 1, at));
+    let Link::Frame(frame) = b.slot(last).link else { return (0, false, links) };
+    let hit = find(b, page).is_some();
+    if !hit {
+        enter(b, page, frame);
+    }
+    (frame, hit, links)
+}
+
+/// The numbers of an access, and then its page.
+fn reachable<T: Tables>(b: &mut T, space: u32, address: u32, rights: u32) -> Result<usize, Refusal> {
     check_sound(b)?;
     check_spaces(b, &[space])?;
     refuse_if(address as usize >= MEMORY, Refusal::Page)?;
     check_rights(rights)?;
     let page = number(space as u8, (address / PAGE_BYTES) as u8);
     check_held(b.slot(page), rights)?;
-    let (frame, hit) = look_up(b, page);
-    Ok(Translation { address: PAGE_BYTES * u32::from(frame) + address % PAGE_BYTES, hit })
+    Ok(page)
 }
 
-/// Number 2, in its place between 1 and 3, and then translate.
+/// The byte of a frame that is as far in as the address is in its page.
+fn physical(frame: u8, address: u32) -> u32 {
+    PAGE_BYTES * u32::from(frame) + address % PAGE_BYTES
+}
+
+pub fn translate<T: Tables>(b: &mut T, space: u32, address: u32, rights: u32) -> Result<Translation, Refusal> {
+    let page = reachable(b, space, address, rights)?;
+    let (frame, hit, links) = look_far(b, page);
+    Ok(Translation { address: physical(frame, address), hit, links })
+}
+
+/// Number 2, in its place between 1 and 3, and then the byte that a load or a store comes to.
 fn reach<T: Tables>(b: &mut T, length: usize, space: u32, address: u32, right: u32) -> Result<usize, Refusal> {
     if length != MEMORY {
         check_sound(b)?;
         return Err(Refusal::Memory);
     }
-    Ok(translate(b, space, address, right)?.address as usize)
+    let page = reachable(b, space, address, right)?;
+    let (frame, _) = look_up(b, page);
+    Ok(physical(frame, address) as usize)
 }
 
 pub fn load<T: Tables>(b: &mut T, memory: &[u8], space: u32, address: u32) -> Result<u8, Refusal> {

@@ -53,7 +53,7 @@ fn answer(board: &mut Board, at: usize, line: &[u8], output: &mut String) {
         Some((name, numbers)) => {
             let number = (call(name).own)(board, &mut [], &numbers, &mut out);
             match name {
-                "translate" => writeln!(output, "line={at} answer={number} address={} hit={}", out[0], out[1]),
+                "translate" => writeln!(output, "line={at} answer={number} address={} hit={} links={}", out[0], out[1], out[2]),
                 _ => writeln!(output, "line={at} answer={number} emptied={}", out[0]),
             }
         }

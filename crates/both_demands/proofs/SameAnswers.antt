@@ -77,15 +77,15 @@ module _ (b : small.Board) (c : large.Board) (both : Together b c) where
       let a = admitted [] [] b c both call h (λ t. absurd (T-not (takesMemory call) no-memory t)) (outcome r) (wide-call.outcome s) is-r is-s (r .board) (s .board) refl refl in
       (a .0 .same-number, a .0 .same-emptied, a .1)
 
-  -- translate: the same number and the same address
+  -- translate: the same number, the same address and the same links
   pub translations-same : (space address rights : ℕ) → T (inLimits entry (Translate space address rights))
       → (r : small-look.Translated) (s : large-look.Translated)
       → translated r ≡ step entry (alone (tables b)) (Translate space address rights)
       → wide-look.translated s ≡ step premium (alone (wide.tables c)) (Translate space address rights)
-      → (s .number ≡ r .number) × (s .address ≡ r .address) × Together (r .board) (s .board)
+      → (s .number ≡ r .number) × (s .address ≡ r .address) × (s .links ≡ r .links) × Together (r .board) (s .board)
   translations-same space address rights h r s is-r is-s =
       let a = admitted [] [] b c both (Translate space address rights) h (λ t. absurd t) (translated r) (wide-look.translated s) is-r is-s (r .board) (s .board) refl refl in
-      (a .0 .same-number, a .0 .same-address, a .1)
+      (a .0 .same-number, a .0 .same-address, a .0 .same-links, a .1)
 
   -- load, on memories whose first bytes are the same: the same number and the same byte
   pub loads-same : (memory rest : List ℕ) → length rest ≡ moreBytes entry premium → (space address : ℕ) → T (inLimits entry (Load space address))

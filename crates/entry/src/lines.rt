@@ -6,7 +6,7 @@ use lend::Link;
 use lend::Slot;
 ghost use mathlib.Core.Path.{_≡_};
 ghost use Rattle.lend.specs.Sizes.{key as keyOf};
-ghost use Rattle.lend_code.specs.Inner.{upOf, insideOf, lineHas, frameIn, Fitting, Ended};
+ghost use Rattle.lend_code.specs.Inner.{upOf, insideOf, lineHas, frameIn, linkIn, Fitting, Ended};
 ghost use Rattle.lend_code.specs.Lending.{meetsIn};
 ghost use Rattle.entry.specs.Sizes.{sizes};
 
@@ -96,9 +96,21 @@ pub(crate) fn frame_in(link: Link) -> u8
     }
 }
 
-// What the walk along the line of one page finds: the frame at its end, 0 where there is none.
+// How many links a page has that keeps this one.
+pub(crate) fn link_in(link: Link) -> u8
+    ensures { λ r. ⌜ r ≡ linkIn link ⌝ }
+{
+    match link {
+        Link::Nothing => 0,
+        Link::Frame(_) => 1,
+        Link::Page(_, _) => 1,
+    }
+}
+
+// What the walk along the line of one page finds: the frame at its end, 0 where there is none, and how many links lead to it.
 pub struct Lookup {
     pub frame: u8,
+    pub links: u8,
 }
 
 // What a walk along all lines finds: whether each is of the right kind, and the frame at its end.

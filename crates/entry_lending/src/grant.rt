@@ -1,4 +1,4 @@
-// grant: the taker's page is flushed of all rights and linked to the giver's parent; then the giver's page is flushed.
+// grant: the taker's page is flushed of all rights and linked to the giver's parent; then the giver's page is flushed of all rights.
 use crate::checks::lines_number;
 use crate::checks::named_number;
 use crate::checks::source_of;
@@ -23,11 +23,11 @@ ghost use Rattle.entry.specs.Sizes.{sizes};
 ghost use Rattle.entry.specs.Board.{tables};
 ghost use Rattle.entry_calls.specs.Answer.{outcome};
 
-// Of which rights a grant flushes the giver.
+// Of which rights a grant flushes the giver: of every right, whichever were granted.
 fn giver_loses(rights: u8) -> u8
     ensures { λ r. ⌜ r ≡ giverLoses rights ⌝ }
 {
-    rights
+    7
 }
 
 // On a board that is known to be sound.

@@ -1,13 +1,12 @@
 -- Board K and the twelve examples on it (01, 'Examples on one board'), one table for both models.
-use Prim.Native.Nat.{ℕ, _+_, _-_, _*_}
+use Prim.Native.Nat.{ℕ}
 use mathlib.Core.Path.{_≡_}
 use mathlib.Core.Bool.{Bool, true, false}
 use mathlib.Core.List.{List, [], _∷_}
 use lib.ListN.{set}
-use lib.Dec.{leb}
-use Rattle.lend.specs.declared.Place.{Place}
+use lib.Dec.{T, eqb, leb}
 use Rattle.lend.specs.declared.Slot.{Slot}
-use Rattle.lend.specs.Sizes.{Sizes, key, memoryBytes}
+use Rattle.lend.specs.Sizes.{Sizes, entry, premium, key}
 use Rattle.lend.specs.Lists.{tabulate}
 use Rattle.lend.specs.Slots.{emptySlot, lentSlot}
 use Rattle.lend.specs.Tables.{Tables, alone}
@@ -32,23 +31,57 @@ K z = record { slots = slotsK z; live = tabulate (z .spaces) (λ s. leb s 4); pl
 abbrev pub withK : Sizes → List Slot → Tables
 withK z b = record { slots = b; live = K z .live; places = K z .places; next = 0 }
 
--- A row: the calls made first, the call, what it replies and the whole board after it.
+-- K with page p of space 0 in the cache
+abbrev pub oneCached : ℕ → Sizes → Tables
+oneCached p z = record {
+  slots = slotsK z;
+  live = K z .live;
+  places = set (K z .places) 0 (record { space = 0; page = p; frame = p; rights = 7 });
+  next = 0;
+}
+
+-- what a translation of an address of space 0 replies, whose pages hold their frames: over one link
+abbrev pub translated : ℕ → Bool → Reply
+translated a h = record { number = 0; emptied = 0; address = a; hit = h; links = 1; byte = 0 }
+
+-- Which model a row is about: either one, or that of so many pages alone.
+abbrev pub either : Sizes → Bool
+either z = true
+
+abbrev pub only : Sizes → Sizes → Bool
+only model z = eqb (z .pages) (model .pages)
+
+-- A row: the models it is about, the calls made first, the call, what it replies and the whole board after it.
 pub record Row : Type 0 where
+  pub concerns : Sizes → Bool
   pub first : List Call
   pub call : Call
   pub reply : Reply
   pub board : Sizes → Tables
 
 abbrev pub row : Call → ℕ → ℕ → (Sizes → Tables) → Row
-row c n e b = record { first = []; call = c; reply = plainReply n e; board = b }
+row c n e b = record { concerns = either; first = []; call = c; reply = plainReply n e; board = b }
 
+-- translate of an address of space 0 for reading: the same address comes back, the first time no hit and then a hit
+abbrev pub looks : (Sizes → Bool) → ℕ → ℕ → Row
+looks model a p = record { concerns = model; first = []; call = Translate 0 a 4; reply = translated a false; board = oneCached p }
+
+abbrev pub looksAgain : (Sizes → Bool) → ℕ → ℕ → Row
+looksAgain model a p =
+    record { concerns = model; first = Translate 0 a 4 ∷ []; call = Translate 0 a 4; reply = translated a true; board = oneCached p }
+
+-- no byte of a model has the address
+abbrev pub past : (Sizes → Bool) → ℕ → Row
+past model a = record { concerns = model; first = []; call = Translate 0 a 4; reply = plainReply 5 0; board = K }
+
+-- the row holds on the model
 abbrev pub Right : Sizes → Row → Type 0
 Right z r = step z (steps z (alone (K z)) (r .first)) (r .call) ≡ record { reply = r .reply; state = alone (r .board z) }
 
--- every row of the list is right
+-- every row of the list that is about the model does
 abbrev pub AllRight : Sizes → List Row → Type 0
 AllRight z [] = Unit {0}
-AllRight z (r ∷ rs) = Right z r × AllRight z rs
+AllRight z (r ∷ rs) = (T (r .concerns z) → Right z r) × AllRight z rs
 
 -- ── the rows, by the document's numbers ──────────────────────────────────
 -- (2,3) keeps 4 and (3,1) is empty
@@ -63,9 +96,9 @@ bothEmpty z = withK z (put z 2 3 emptySlot (put z 3 1 emptySlot (slotsK z)))
 abbrev pub lessExecute : Sizes → Tables
 lessExecute z = withK z (put z 1 0 (lentSlot 0 5 6) (slotsK z))
 
--- (4,0) has 2 from (1,0), (2,3) keeps 4 and (3,1) is empty
+-- (4,0) has 2 from (1,0), (2,3) and (3,1) are empty
 abbrev pub handedOn : Sizes → Tables
-handedOn z = withK z (put z 4 0 (lentSlot 1 0 2) (put z 2 3 (lentSlot 1 0 4) (put z 3 1 emptySlot (slotsK z))))
+handedOn z = withK z (put z 4 0 (lentSlot 1 0 2) (put z 2 3 emptySlot (put z 3 1 emptySlot (slotsK z))))
 
 -- space 2 is not live, its pages and (3,1) are empty
 abbrev pub deleted : Sizes → Tables
@@ -76,25 +109,12 @@ deleted z = record {
   next = 0;
 }
 
--- the last address, and the place that its translation fills
-abbrev pub lastAddress : Sizes → ℕ
-lastAddress z = memoryBytes z - 1
-
-abbrev pub lastPlace : Sizes → Place
-lastPlace z = record { space = 0; page = z .pages - 1; frame = z .pages - 1; rights = 7 }
-
-abbrev pub oneCached : Sizes → Tables
-oneCached z = record { slots = slotsK z; live = K z .live; places = set (K z .places) 0 (lastPlace z); next = 0 }
-
-abbrev pub translated : ℕ → Bool → Reply
-translated a h = record { number = 0; emptied = 0; address = a; hit = h; byte = 0 }
-
 unfoldable pub table : List Row
 table =
     -- 1
     row (Unmap 1 0 2) 0 1 oneCut
     -- 2, both ways
-    ∷ record { first = Unmap 1 0 2 ∷ []; call = Unmap 1 0 4; reply = plainReply 0 1; board = bothEmpty }
+    ∷ record { concerns = either; first = Unmap 1 0 2 ∷ []; call = Unmap 1 0 4; reply = plainReply 0 1; board = bothEmpty }
     ∷ row (Unmap 1 0 6) 0 2 bothEmpty
     -- 3
     ∷ row (Unmap 0 5 1) 0 0 lessExecute
@@ -113,22 +133,20 @@ table =
     ∷ row (Map 1 0 2 8 4) 15 0 K
     -- 9
     ∷ row (Map 1 0 2 3 4) 0 1 oneCut
-    -- 10
-    ∷ row (Grant 2 3 4 0 2) 0 1 handedOn
+    -- 10, as M-103 has it
+    ∷ row (Grant 2 3 4 0 2) 0 2 handedOn
     -- 11
     ∷ row (Delete 2) 0 3 deleted
-    ∷ []
-
--- 12: the last address, which is in the cache the second time, and the one past it; these are the model's own
-unfoldable pub lastAddresses : Sizes → List Row
-lastAddresses z =
-    record { first = []; call = Translate 0 (lastAddress z) 4; reply = translated (lastAddress z) false; board = oneCached }
-    ∷ record { first = Translate 0 (lastAddress z) 4 ∷ []; call = Translate 0 (lastAddress z) 4; reply = translated (lastAddress z) true; board = oneCached }
-    ∷ row (Translate 0 (memoryBytes z) 4) 5 0 K
+    -- 12, and the premium model's own last address
+    ∷ looks either 32767 31
+    ∷ looksAgain either 32767 31
+    ∷ past (only entry) 32768
+    ∷ looks (only premium) 65535 63
+    ∷ looksAgain (only premium) 65535 63
+    ∷ past (only premium) 65536
     ∷ []
 
 -- what the document says of board K, on a model
 pub record Examples (z : Sizes) : Type 0 where
   pub sound : Sound z (K z)
   pub rows : AllRight z table
-  pub last-rows : AllRight z (lastAddresses z)

@@ -13,9 +13,10 @@ use Rattle.lend.specs.Tables.{Tables, State}
 use Rattle.lend.specs.SoundTest.{soundTest}
 use Rattle.lend.specs.Start.{startBoard}
 use Rattle.lend.specs.Calls.{Call, Create, Delete, Unmap, Flush, Map, Grant, Translate, Load, Store, Outcome, plainReply, report, step, number}
+use Rattle.lend_laws.proofs.Accepted.{report-number}
 use Rattle.image.specs.Image.{imageOf, imageBytes, isImage, boardFrom, written}
 use Rattle.lend.specs.Ranges.{RangeCall, RangeOutcome, rangeNumber, rangeStep}
-use Rattle.image.specs.Answered.{given, fourOf, outOf, Left, left, leftBy, answerTo, startAnswer, finishing, soundNumber, threeOf, rangeLeftBy, rangeAnswerTo, rangeFinishing}
+use Rattle.image.specs.Answered.{given, outOf, Left, left, leftBy, answerTo, startAnswer, finishing, soundNumber, threeOf, rangeLeftBy, rangeAnswerTo, rangeFinishing}
 use Rattle.image.proofs.Image.{sound-image, is-long, not-image}
 
 -- a call that is done shows that the board is sound
@@ -33,12 +34,12 @@ module _ (z : Sizes) (call : Call) (image memory : List ℕ) (o : Outcome) (is :
   unfolding written
   writes e = rw (eq-eqb (length image) (imageBytes z) (is-long z image (sound-image z image (done-sound z (given z image memory) call (sym (ap (λ (x : Outcome). x .reply .number) is) ∙ e)))))
 
-  pub answered : (first second n : ℕ) (image′ memory′ out′ : List ℕ) → left n image′ [] out′ ≡ finishing z (o .state .board) (o .reply .number) first second image
+  pub answered : (first second third n : ℕ) (image′ memory′ out′ : List ℕ) → left n image′ [] out′ ≡ finishing z (o .state .board) (o .reply .number) first second third image
       → memory′ ≡ o .state .memory
-      → fourOf first second ≡ outOf call (o .reply)
+      → threeOf first second third ≡ outOf call (o .reply)
       → left n image′ memory′ out′ ≡ answerTo z call image memory
   unfolding answerTo finishing
-  answered first second n image′ memory′ out′ f m q =
+  answered first second third n image′ memory′ out′ f m q =
       let image-is : image′ ≡ cond (eqb (o .reply .number) 0) (imageOf (o .state .board)) image = ap (λ (l : Left). l .image) f ∙ go (eqb (o .reply .number) 0) refl in
       let out-is : out′ ≡ outOf call (o .reply) = ap (λ (l : Left). l .out) f ∙ q in
       (λ i. left (f i .number) (image-is i) (m i) (out-is i)) ∙ ap (leftBy call image) is
@@ -49,34 +50,34 @@ module _ (z : Sizes) (call : Call) (image memory : List ℕ) (o : Outcome) (is :
 
 -- the same, where the board was read from the image
 pub answered-on : (z : Sizes) (call : Call) (image memory : List ℕ) (b : Tables) (o : Outcome) → b ≡ boardFrom z image → o ≡ step z (record { board = b; memory = memory }) call
-    → (first second n : ℕ) (image′ memory′ out′ : List ℕ)
-    → left n image′ [] out′ ≡ finishing z (o .state .board) (o .reply .number) first second image
+    → (first second third n : ℕ) (image′ memory′ out′ : List ℕ)
+    → left n image′ [] out′ ≡ finishing z (o .state .board) (o .reply .number) first second third image
     → memory′ ≡ o .state .memory
-    → fourOf first second ≡ outOf call (o .reply)
+    → threeOf first second third ≡ outOf call (o .reply)
     → left n image′ memory′ out′ ≡ answerTo z call image memory
 answered-on z call image memory b o e is = answered z call image memory o (is ∙ ap (λ (t : Tables). step z (record { board = t; memory = memory }) call) e)
 
 -- the last part of a call: refused, and done
-module _ (z : Sizes) (t : Tables) (number first second : ℕ) (image : List ℕ) where
-  pub finished-refused : (number ≡ 0 → ⊥) → left number image [] (fourOf first second) ≡ finishing z t number first second image
+module _ (z : Sizes) (t : Tables) (number first second third : ℕ) (image : List ℕ) where
+  pub finished-refused : (number ≡ 0 → ⊥) → left number image [] (threeOf first second third) ≡ finishing z t number first second third image
   unfolding finishing
   finished-refused h = rw (ne-eqb number 0 h)
 
-  pub finished-done : (image′ : List ℕ) → number ≡ 0 → image′ ≡ written z image t → left 0 image′ [] (fourOf first second) ≡ finishing z t number first second image
+  pub finished-done : (image′ : List ℕ) → number ≡ 0 → image′ ≡ written z image t → left 0 image′ [] (threeOf first second third) ≡ finishing z t number first second third image
   unfolding finishing
-  finished-done image′ e w = rw e (ap (λ (l : List ℕ). left 0 l [] (fourOf first second)) w)
+  finished-done image′ e w = rw e (ap (λ (l : List ℕ). left 0 l [] (threeOf first second third)) w)
 
 -- start and sound
 pub started : (z : Sizes) (image image′ : List ℕ) (b : Tables) (n : ℕ) → n ≡ cond (eqb (length image) (imageBytes z)) 0 1 → b ≡ startBoard z → image′ ≡ written z image b
-    → left n image′ [] (fourOf 0 0) ≡ startAnswer z image
+    → left n image′ [] (threeOf 0 0 0) ≡ startAnswer z image
 unfolding startAnswer
-started z image image′ b n e f w = λ i. left (e i) ((w ∙ ap (written z image) f) i) [] (fourOf 0 0)
+started z image image′ b n e f w = λ i. left (e i) ((w ∙ ap (written z image) f) i) [] (threeOf 0 0 0)
 
 pub sound-told : (z : Sizes) (image : List ℕ) (b : Tables) (is : Bool) (n : ℕ) → n ≡ cond is 1 0 → b ≡ boardFrom z image → is ≡ soundTest z b → n ≡ soundNumber z image
 sound-told z image b is n e f g = e ∙ ap (λ (t : Bool). cond t 1 0) (g ∙ ap (soundTest z) f)
 
 -- ── what include/lend.h promises of a refusal ────────────────────────────
-out-none : (call : Call) (n : ℕ) → outOf call (plainReply n 0) ≡ fourOf 0 0
+out-none : (call : Call) (n : ℕ) → outOf call (plainReply n 0) ≡ threeOf 0 0 0
 out-none (Create space) n = refl
 out-none (Delete space) n = refl
 out-none (Unmap space page rights) n = refl
@@ -87,38 +88,26 @@ out-none (Translate space address rights) n = refl
 out-none (Load space address) n = refl
 out-none (Store space address byte) n = refl
 
-report-done : (z : Sizes) (st : State) (call : Call) → report z st call .number ≡ 0
-unfolding report
-report-done z st (Create space) = refl
-report-done z st (Delete space) = refl
-report-done z st (Unmap space page rights) = refl
-report-done z st (Flush space page rights) = refl
-report-done z st (Map from page to at rights) = refl
-report-done z st (Grant from page to at rights) = refl
-report-done z st (Translate space address rights) = refl
-report-done z st (Load space address) = refl
-report-done z st (Store space address byte) = refl
-
 module _ (z : Sizes) (call : Call) (image memory : List ℕ) where
-  refused-by : (n : ℕ) → number z (given z image memory) call ≡ n → (n ≡ 0 → ⊥) → answerTo z call image memory ≡ left n image memory (fourOf 0 0)
+  refused-by : (n : ℕ) → number z (given z image memory) call ≡ n → (n ≡ 0 → ⊥) → answerTo z call image memory ≡ left n image memory (threeOf 0 0 0)
   unfolding answerTo step
   refused-by n e h = rw (e, ne-eqb n 0 h, ne-eqb n 0 h) (ap (left n image memory) (out-none call n))
 
   -- after any number but 0 every byte is as it was, and every out field is 0
-  pub refusal-leaves : (n : ℕ) → answerTo z call image memory .number ≡ n → (n ≡ 0 → ⊥) → answerTo z call image memory ≡ left n image memory (fourOf 0 0)
+  pub refusal-leaves : (n : ℕ) → answerTo z call image memory .number ≡ n → (n ≡ 0 → ⊥) → answerTo z call image memory ≡ left n image memory (threeOf 0 0 0)
   unfolding answerTo step
   refusal-leaves n e h = go (ℕ-discrete (number z (given z image memory) call) 0)
     where
-      go : Dec (number z (given z image memory) call ≡ 0) → answerTo z call image memory ≡ left n image memory (fourOf 0 0)
+      go : Dec (number z (given z image memory) call ≡ 0) → answerTo z call image memory ≡ left n image memory (threeOf 0 0 0)
       go (yes q) =
           let done : report z (given z image memory) call .number ≡ n = rw (eq-eqb (number z (given z image memory) call) 0 q) at e in
-          absurd (h (sym done ∙ report-done z (given z image memory) call))
+          absurd (h (sym done ∙ report-number z (given z image memory) call))
       go (no q) =
           let refused : number z (given z image memory) call ≡ n = rw (ne-eqb (number z (given z image memory) call) 0 q) at e in
           refused-by n refused h
 
   -- and bytes that are no image give the number 1
-  pub not-image-refused : isImage z image ≡ false → answerTo z call image memory ≡ left 1 image memory (fourOf 0 0)
+  pub not-image-refused : isImage z image ≡ false → answerTo z call image memory ≡ left 1 image memory (threeOf 0 0 0)
   unfolding number
   not-image-refused e = refused-by 1 (rw (not-image z image e)) (λ q. omega arith)
 

@@ -16,7 +16,7 @@ use Rattle.image.specs.Image.{slotBytes, liveByte, placeBytes, joined, i
 
 -- ── elements of four bytes each ──────────────────────────────────────────
 module _ {A : Type 0} (f : A → List ℕ) (four : (x : A) → length (f x) ≡ 4) where
-  pub joined-long : (xs : List A) → length (joined f xs) ≡ 4 * length xs
+  joined-long : (xs : List A) → length (joined f xs) ≡ 4 * length xs
   unfolding joined
   joined-long [] = refl
   joined-long (x ∷ xs) = length-append (f x) (joined f xs) ∙ omega (arith, four x, joined-long xs)

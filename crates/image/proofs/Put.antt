@@ -22,7 +22,7 @@ module _ (bytes : List ℕ) (from : ℕ) (old : List ℕ) where
   pub put-none : PutTo bytes from 0 old old
   put-none = record { long = refl; inside = λ j h. absurd (not-suc-le-zero h); before = λ j h. refl; after = λ j h. refl }
 
-  pub put-more : (n : ℕ) (new : List ℕ) (at v : ℕ) → PutTo bytes from n old new → at ≡ from + n → at < length old → v ≡ getD bytes n 0 → PutTo bytes from (n + 1) old (set new at v)
+  put-more : (n : ℕ) (new : List ℕ) (at v : ℕ) → PutTo bytes from n old new → at ≡ from + n → at < length old → v ≡ getD bytes n 0 → PutTo bytes from (n + 1) old (set new at v)
   put-more n new at v p e h q = record {
     long = length-set new at v ∙ p .long;
     inside = below-more (λ (j : ℕ). getD (set new at v) (from + j) 0 ≡ getD bytes j 0) n
@@ -35,7 +35,7 @@ module _ (bytes : List ℕ) (from : ℕ) (old : List ℕ) where
   pub put-as : (m n : ℕ) (new : List ℕ) → PutTo bytes from m old new → m ≡ n → PutTo bytes from n old new
   put-as m n new p e = rw (← e) p
 
-  pub put-four : (n : ℕ) (new : List ℕ) (at v w x y : ℕ) → PutTo bytes from n old new → at ≡ from + n → at + 3 < length old
+  put-four : (n : ℕ) (new : List ℕ) (at v w x y : ℕ) → PutTo bytes from n old new → at ≡ from + n → at + 3 < length old
       → v ≡ getD bytes n 0 → w ≡ getD bytes (n + 1) 0 → x ≡ getD bytes (n + 2) 0 → y ≡ getD bytes (n + 3) 0
       → PutTo bytes from (n + 4) old (set (set (set (set new at v) (at + 1) w) (at + 2) x) (at + 3) y)
   put-four n new at v w x y p e h a b c d =
@@ -48,7 +48,7 @@ module _ (bytes : List ℕ) (from : ℕ) (old : List ℕ) where
       put-as (n + 3 + 1) (n + 4) (set new-3 (at + 3) y) (put-more (n + 3) new-3 (at + 3) y put-3 (omega arith) h d) (omega arith)
 
   -- all of the bytes over as many others
-  pub put-all : (n : ℕ) (new : List ℕ) → PutTo bytes from n old new → from ≡ 0 → length bytes ≡ n → length old ≡ n → new ≡ bytes
+  put-all : (n : ℕ) (new : List ℕ) → PutTo bytes from n old new → from ≡ 0 → length bytes ≡ n → length old ≡ n → new ≡ bytes
   put-all n new p z e f =
       ext-getD 0 new bytes (p .long ∙ (f ∙ sym e))
       (λ j l. ap (λ (i : ℕ). getD new i 0) {x = j} {y = from + j} (omega arith) ∙ p .inside j (omega (arith, p .long)))
@@ -80,7 +80,7 @@ live-cast true = refl
 live-cast false = refl
 
 -- ── one after the other ──────────────────────────────────────────────────
-pub put-join : (a b : List ℕ) (from n m : ℕ) (old mid new : List ℕ) → length a ≡ n → PutTo a from n old mid → PutTo b (from + n) m mid new → PutTo (a ++ b) from (n + m) old new
+put-join : (a b : List ℕ) (from n m : ℕ) (old mid new : List ℕ) → length a ≡ n → PutTo a from n old mid → PutTo b (from + n) m mid new → PutTo (a ++ b) from (n + m) old new
 put-join a b from n m old mid new e p q = record {
   long = q .long ∙ p .long;
   inside = λ j l. within j l (decLt j n);

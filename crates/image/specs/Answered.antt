@@ -17,20 +17,21 @@ use Rattle.image.specs.Image.{imageOf, imageBytes, boardFrom, written}
 abbrev pub given : Sizes → List ℕ → List ℕ → State
 given z image memory = record { board = boardFrom z image; memory = memory }
 
-abbrev pub fourOf : ℕ → ℕ → List ℕ
-fourOf x y = x ∷ y ∷ 0 ∷ 0 ∷ []
+-- the four out fields: no call fills more than three
+abbrev pub threeOf : ℕ → ℕ → ℕ → List ℕ
+threeOf x y w = x ∷ y ∷ w ∷ 0 ∷ []
 
 -- the out fields; a refusal's reply has every field 0, and so have they
 abbrev pub outOf : Call → Reply → List ℕ
-outOf (Create space) r = fourOf (r .emptied) 0
-outOf (Delete space) r = fourOf (r .emptied) 0
-outOf (Unmap space page rights) r = fourOf (r .emptied) 0
-outOf (Flush space page rights) r = fourOf (r .emptied) 0
-outOf (Map from page to at rights) r = fourOf (r .emptied) 0
-outOf (Grant from page to at rights) r = fourOf (r .emptied) 0
-outOf (Translate space address rights) r = fourOf (r .address) (cond (r .hit) 1 0)
-outOf (Load space address) r = fourOf (r .byte) 0
-outOf (Store space address byte) r = fourOf 0 0
+outOf (Create space) r = threeOf (r .emptied) 0 0
+outOf (Delete space) r = threeOf (r .emptied) 0 0
+outOf (Unmap space page rights) r = threeOf (r .emptied) 0 0
+outOf (Flush space page rights) r = threeOf (r .emptied) 0 0
+outOf (Map from page to at rights) r = threeOf (r .emptied) 0 0
+outOf (Grant from page to at rights) r = threeOf (r .emptied) 0 0
+outOf (Translate space address rights) r = threeOf (r .address) (cond (r .hit) 1 0) (r .links)
+outOf (Load space address) r = threeOf (r .byte) 0 0
+outOf (Store space address byte) r = threeOf 0 0 0
 
 -- all that a call leaves: the number, and what stands in the image, the memory and the out fields after it
 pub record Left : Type 0 where
@@ -52,22 +53,18 @@ answerTo z call image memory = leftBy call image (step z (given z image memory) 
 
 -- start writes the start board over any bytes of the right length
 unfoldable pub startAnswer : Sizes → List ℕ → Left
-startAnswer z image = left (cond (eqb (length image) (imageBytes z)) 0 1) (written z image (startBoard z)) [] (fourOf 0 0)
+startAnswer z image = left (cond (eqb (length image) (imageBytes z)) 0 1) (written z image (startBoard z)) [] (threeOf 0 0 0)
 
--- what the last part of a call leaves, for the board, the number and the two out fields that it is given
-unfoldable pub finishing : Sizes → Tables → ℕ → ℕ → ℕ → List ℕ → Left
-finishing z t n first second image = left n (cond (eqb n 0) (written z image t) image) [] (fourOf first second)
+-- what the last part of a call leaves, for the board, the number and the three out fields that it is given
+unfoldable pub finishing : Sizes → Tables → ℕ → ℕ → ℕ → ℕ → List ℕ → Left
+finishing z t n first second third image = left n (cond (eqb n 0) (written z image t) image) [] (threeOf first second third)
 
 -- 1 where the image is a sound board's, else 0
 abbrev pub soundNumber : Sizes → List ℕ → ℕ
 soundNumber z image = cond (soundTest z (boardFrom z image)) 1 0
 
 -- ── calls over ranges ────────────────────────────────────────────────────
--- the out fields: pages done, the offset of the first refused page, pages emptied
-abbrev pub threeOf : ℕ → ℕ → ℕ → List ℕ
-threeOf x y w = x ∷ y ∷ w ∷ 0 ∷ []
-
--- a number other than 1 may be a page's, and what was done to the others stands; on 1 the bytes may be no image
+-- the out fields: pages done, the offset of the first refused page, pages emptied; a number other than 1 may be a page's, and what was done to the others stands; on 1 the bytes may be no image
 abbrev pub rangeLeftBy : List ℕ → RangeOutcome → Left
 rangeLeftBy image o =
     left (o .number) (cond (eqb (o .number) 1) image (imageOf (o .state .board))) [] (threeOf (o .done) (o .offset) (o .emptied))

@@ -32,13 +32,6 @@ module _ {A : Type 0} (d : A) (n : ℕ) (g : ℕ → A) where
         (getD-set-same out k v d (omega (arith, b .long)) ∙ e);
   }
 
-  -- a turn that only writes again where nothing is settled yet
-  pub built-same : (out : List A) (k i : ℕ) (v : A) → Built d n g out k → k ≤ i → Built d n g (set out i v) k
-  built-same out k i v b h = record {
-    long = length-set out i v ∙ b .long;
-    done = λ j l. getD-set-other out i j v d (λ q. lt-irrefl k (omega arith)) ∙ b .done j l;
-  }
-
   pub built-all : (out : List A) (k : ℕ) → Built d n g out k → n ≤ k → out ≡ tabulate n g
   built-all out k b h =
       ext-getD d out (tabulate n g) (b .long ∙ sym (length-tabulate g n))
@@ -72,7 +65,7 @@ module _ {A : Type 0} (d : A) (g : ℕ → A) (old : List A) where
     left = λ j l. b .left j (omega arith);
   }
 
-  pub changed-all : (out : List A) (k : ℕ) → Changed d g old out k → length old ≤ k → out ≡ tabulate (length old) g
+  changed-all : (out : List A) (k : ℕ) → Changed d g old out k → length old ≤ k → out ≡ tabulate (length old) g
   changed-all out k b h =
       ext-getD d out (tabulate (length old) g) (b .long ∙ sym (length-tabulate g (length old)))
       (λ j l. b .done j (omega (arith, b .long)) ∙ sym (tabulate-at g (length old) j d (omega (arith, b .long))))

@@ -68,11 +68,11 @@ pub less-less : (r d e : ℕ) → r < 8 → d < 8 → e < 8 → less (less r d) 
 unfolding less join
 less-less r d e hr hd he = eqb→eq (less (less r d) e) (less r (join d e)) (each3 (λ a b c. eqb (less (less a b) c) (less a (join b c))) tt r d e hr hd he)
 
-pub less-mono : (r q d : ℕ) → r < 8 → q < 8 → d < 8 → T (within r q) → T (within (less r d) (less q d))
+less-mono : (r q d : ℕ) → r < 8 → q < 8 → d < 8 → T (within r q) → T (within (less r d) (less q d))
 unfolding less within
 less-mono r q d hr hq hd w = implied (within r q) (within (less r d) (less q d)) (each3 (λ a b c. implies (within a b) (within (less a c) (less b c))) tt r q d hr hq hd) w
 
-pub less-anti : (r d e : ℕ) → r < 8 → d < 8 → e < 8 → T (within d e) → T (within (less r e) (less r d))
+less-anti : (r d e : ℕ) → r < 8 → d < 8 → e < 8 → T (within d e) → T (within (less r e) (less r d))
 unfolding less within
 less-anti r d e hr hd he w = implied (within d e) (within (less r e) (less r d)) (each3 (λ a b c. implies (within b c) (within (less a c) (less a b))) tt r d e hr hd he) w
 
@@ -112,14 +112,6 @@ less-within-less r q d e hr hq hd he w v =
 pub join-lt : (r d : ℕ) → r < 8 → d < 8 → join r d < 8
 unfolding join
 join-lt r d hr hd = ltb→lt (join r d) 8 (each2 (λ a b. ltb (join a b) 8) tt r d hr hd)
-
-pub join-zero : (r : ℕ) → r < 8 → join r 0 ≡ r
-unfolding join
-join-zero r hr = eqb→eq (join r 0) r (each 8 (λ a. eqb (join a 0) a) tt r hr)
-
-pub join-self : (r : ℕ) → r < 8 → join r r ≡ r
-unfolding join
-join-self r hr = eqb→eq (join r r) r (each 8 (λ a. eqb (join a a) a) tt r hr)
 
 pub within-join-l : (d e : ℕ) → d < 8 → e < 8 → T (within d (join d e))
 unfolding join within

@@ -4,7 +4,8 @@ use mathlib.Core.Path.{_≡_, refl, sym, ap, _∙_}
 use mathlib.Core.Bool.{Bool, true, false, not, _||_, cond}
 use mathlib.Core.List.{List}
 use mathlib.Core.Logic.{_⊎_, inl, inr}
-use Prim.Native.Nat.{ℕ, zero, suc, _-_, _≤_, _<_}
+use Prim.Native.Nat.{ℕ, zero, suc, _+_, _-_, _≤_, _<_}
+use native.Mathlib.Nat.{add-zero, add-assoc}
 use native.Mathlib.Decide.{decLt}
 use native.Mathlib.Numerals.{add-one}
 use native.Mathlib.Omega.{arith}
@@ -19,66 +20,100 @@ use Rattle.lend.specs.Sizes.{Sizes, memoryBytes, slotCount, key}
 use Rattle.lend.specs.Rights.{readRight, writeRight, within}
 use Rattle.lend.specs.Slots.{emptySlot, slotAt, held}
 use Rattle.lend.specs.Tables.{Tables, State, alone, tableOf}
-use Rattle.lend.specs.Line.{frame, frameOf}
+use Rattle.lend.specs.Line.{frame, frameOf, links, linksOf}
 use Rattle.lend.specs.Cache.{emptyPlace, placeAt, placeFor, cached, emptyIn, goesTo, nextAfter, inserted}
 use Rattle.lend.specs.Sound.{Sound}
 use Rattle.lend.specs.SoundTest.{soundTest}
 use Rattle.lend.specs.Numbers.{noSpace, notLive, noAddress, badRights}
-use Rattle.lend.specs.Translate.{addressPage, pageAt, physical, hit, entryOf, withEntry, looked}
+use Rattle.lend.specs.Translate.{addressPage, pageAt, physical, linksTo, hit, entryOf, withEntry, looked}
 use Rattle.lend.specs.Calls.{Call, Translate, Load, Store, Outcome, number, cases, step, accept, refuse, boardAfter, memoryAfter, report, plainReply}
 use Rattle.lend_basics.proofs.Bools.{or-cases, not-or, true-is}
 use Rattle.lend_sound.proofs.SoundTest.{test-sound}
 use Rattle.lend_laws.proofs.Accepted.{accepted, refused, tested}
 use Rattle.lend_lending.proofs.Frames.{frame-held}
 use Rattle.lend_lending.proofs.Insert.{hit-place, page-in, ReadFine, translate-fine, load-fine, store-fine}
-use Rattle.lend_code.specs.Inner.{upOf, insideOf, frameIn}
+use Rattle.lend_code.specs.Inner.{upOf, insideOf, frameIn, linkIn}
 use Rattle.lend_code.specs.Access.{placeAfter, accessNumber, Look, lookIf, lookAt, byteAt}
 use Rattle.lend_code.proofs.Fits.{inside-key}
 
 -- ── the walk to a frame ──────────────────────────────────────────────────
+-- a page has one link at most
+one-link : {n : ℕ} (l : Link) → n ≡ linkIn l → n ≤ 1
+one-link Nothing e = omega arith
+one-link (Frame i) e = omega arith
+one-link (Page s p) e = omega arith
+
 module _ (z : Sizes) (b : List Slot) (k : ℕ) where
-  -- the walk along the line of k has come to the page at, with so many pages left to visit, and what is left has the frame of k
-  pub record Climbing (at left : ℕ) : Type 0 where
+  -- the walk along the line of k has come over so many links to the page at, with so many pages left to visit: what is left has the
+  -- frame of k, and the links that k has more
+  pub record Climbing (at over left : ℕ) : Type 0 where
     pub slots-long : length b ≡ slotCount z
     pub some-left : 1 ≤ left
+    pub visited : over + left ≡ z .spaces
     pub same : frame z (slotAt b) left at ≡ frameOf z (slotAt b) k
+    pub more : over + links z (slotAt b) left at ≡ linksOf z (slotAt b) k
 
-  pub climbing-none : length b ≡ slotCount z → 1 ≤ z .spaces → Climbing k (z .spaces)
-  climbing-none long one = record { slots-long = long; some-left = one; same = refl }
+  -- what the walk comes to: the frame of k and its links
+  abbrev pub Reached : ℕ → ℕ → Type 0
+  Reached fr over = (fr ≡ frameOf z (slotAt b) k) × (over ≡ linksOf z (slotAt b) k)
 
-  -- a page past the table has no frame
-  past-none : (n q : ℕ) → length b ≡ slotCount z → slotCount z ≤ q → frame z (slotAt b) n q ≡ 0
-  unfolding frame
-  past-none zero q long h = refl
-  past-none (suc n) q long h = rw (List·getD-eq-default b emptySlot {n = q} (omega arith))
+  pub climbing-none : length b ≡ slotCount z → 1 ≤ z .spaces → Climbing k 0 (z .spaces)
+  climbing-none long one = record { slots-long = long; some-left = one; visited = omega arith; same = refl; more = omega arith }
 
-  module _ (at left up : ℕ) (w : Climbing at left) (u : up ≡ upOf z (slotAt b at .link)) where
+  -- a page past the table has no frame, and no link
+  past-none : (n q : ℕ) → length b ≡ slotCount z → slotCount z ≤ q → (frame z (slotAt b) n q ≡ 0) × (links z (slotAt b) n q ≡ 0)
+  unfolding frame links
+  past-none zero q long h = (refl, refl)
+  past-none (suc n) q long h = rw (List·getD-eq-default b emptySlot {n = q} (omega arith)) (refl, refl)
+
+  -- the links gone over, and the one that the page at has, are at most as many as there are spaces
+  pub climbing-room : (at over left n : ℕ) → Climbing at over left → n ≡ linkIn (slotAt b at .link) → over + n ≤ z .spaces
+  climbing-room at over left n w e = omega (arith, one-link (slotAt b at .link) e, w .visited, w .some-left)
+
+  module _ (at over left up : ℕ) (w : Climbing at over left) (u : up ≡ upOf z (slotAt b at .link)) where
     fuel : suc (left - 1) ≡ left
     fuel = omega (arith, w .some-left)
 
+    -- what is left, followed one page at a time
+    ahead : (frame z (slotAt b) (suc (left - 1)) at ≡ frameOf z (slotAt b) k) × (over + links z (slotAt b) (suc (left - 1)) at ≡ linksOf z (slotAt b) k)
+    ahead = (ap (λ (n : ℕ). frame z (slotAt b) n at) fuel ∙ w .same, ap (λ (n : ℕ). over + links z (slotAt b) n at) fuel ∙ w .more)
+
     -- the turn that ends the walk: no page of the table is above, or none is left to visit
-    pub climbing-ends : (leb (slotCount z) up || leb left 1) ≡ true → frameIn (slotAt b at .link) ≡ frameOf z (slotAt b) k
-    unfolding frame
-    climbing-ends t = go (slotAt b at .link) refl (or-cases (leb (slotCount z) up) (leb left 1) (true-is _ t)) ∙ (ap (λ (n : ℕ). frame z (slotAt b) n at) fuel ∙ w .same)
+    pub climbing-ends : (leb (slotCount z) up || leb left 1) ≡ true → Reached (frameIn (slotAt b at .link)) (over + linkIn (slotAt b at .link))
+    unfolding frame links
+    climbing-ends t =
+        let e = go (slotAt b at .link) refl (or-cases (leb (slotCount z) up) (leb left 1) (true-is _ t)) in
+        (e .0 ∙ ahead .0, ap (λ (n : ℕ). over + n) (e .1) ∙ ahead .1)
       where
-        last : (n q : ℕ) → n ≡ left - 1 → q ≡ up → T (leb (slotCount z) up) ⊎ T (leb left 1) → 0 ≡ frame z (slotAt b) n q
-        last n q e v (inl x) = let l = leb→le (slotCount z) up x in sym (past-none n q (w .slots-long) (omega arith))
-        last zero q e v (inr x) = refl
+        last : (n q : ℕ) → n ≡ left - 1 → q ≡ up → T (leb (slotCount z) up) ⊎ T (leb left 1) → (0 ≡ frame z (slotAt b) n q) × (0 ≡ links z (slotAt b) n q)
+        last n q e v (inl x) =
+            let l = leb→le (slotCount z) up x in
+            let none = past-none n q (w .slots-long) (omega arith) in
+            (sym (none .0), sym (none .1))
+        last zero q e v (inr x) = (refl, refl)
         last (suc n) q e v (inr x) = let l = leb→le left 1 x in absurd (omega arith)
 
-        go : (l : Link) → slotAt b at .link ≡ l → T (leb (slotCount z) up) ⊎ T (leb left 1) → frameIn (slotAt b at .link) ≡ frame z (slotAt b) (suc (left - 1)) at
-        go Nothing e x = rw e
-        go (Frame i) e x = rw e
-        go (Page s p) e x = let v : up ≡ key z s p = u ∙ rw e in rw e (last (left - 1) (key z s p) refl (sym v) x)
+        go : (l : Link) → slotAt b at .link ≡ l → T (leb (slotCount z) up) ⊎ T (leb left 1)
+            → (frameIn (slotAt b at .link) ≡ frame z (slotAt b) (suc (left - 1)) at) × (linkIn (slotAt b at .link) ≡ links z (slotAt b) (suc (left - 1)) at)
+        go Nothing e x = rw e (refl, refl)
+        go (Frame i) e x = rw e (refl, refl)
+        go (Page s p) e x =
+            let v : up ≡ key z s p = u ∙ rw e in
+            let l = last (left - 1) (key z s p) refl (sym v) x in
+            rw e (l .0, ap suc (l .1))
 
     -- a turn that goes on to the parent
-    pub climbing-up : (leb (slotCount z) up || leb left 1) ≡ false → Climbing up (left - 1)
-    unfolding frame
-    climbing-up t = record {
-      slots-long = w .slots-long;
-      some-left = omega (arith, more);
-      same = sym (go (slotAt b at .link) refl) ∙ (ap (λ (n : ℕ). frame z (slotAt b) n at) fuel ∙ w .same);
-    }
+    pub climbing-up : (leb (slotCount z) up || leb left 1) ≡ false → Climbing up (over + 1) (left - 1)
+    unfolding frame links
+    climbing-up t =
+        let g = go (slotAt b at .link) refl in
+        record {
+          slots-long = w .slots-long;
+          some-left = omega (arith, above);
+          visited = omega (arith, above, w .visited);
+          same = sym (g .0) ∙ ahead .0;
+          more = add-assoc over 1 (links z (slotAt b) (left - 1) up) ∙ (ap (λ (n : ℕ). over + n) (sym (g .1)) ∙ ahead .1);
+        }
       where
         not-both : T (not (leb (slotCount z) up)) × T (not (leb left 1))
         not-both = not-or (leb (slotCount z) up) (leb left 1) (rw t tt)
@@ -86,17 +121,20 @@ module _ (z : Sizes) (b : List Slot) (k : ℕ) where
         inside : up < slotCount z
         inside = nleb→lt (slotCount z) up (not-both .0)
 
-        more : 1 < left
-        more = nleb→lt left 1 (not-both .1)
+        above : 1 < left
+        above = nleb→lt left 1 (not-both .1)
 
-        go : (l : Link) → slotAt b at .link ≡ l → frame z (slotAt b) (suc (left - 1)) at ≡ frame z (slotAt b) (left - 1) up
+        go : (l : Link) → slotAt b at .link ≡ l
+            → (frame z (slotAt b) (suc (left - 1)) at ≡ frame z (slotAt b) (left - 1) up) × (links z (slotAt b) (suc (left - 1)) at ≡ 1 + links z (slotAt b) (left - 1) up)
         go Nothing e = let v : up ≡ slotCount z = u ∙ rw e in absurd (omega (arith, inside))
         go (Frame i) e = let v : up ≡ slotCount z = u ∙ rw e in absurd (omega (arith, inside))
-        go (Page s p) e = let v : up ≡ key z s p = u ∙ rw e in rw (e, v)
+        go (Page s p) e = let v : up ≡ key z s p = u ∙ rw e in rw (e, v) (refl, omega arith)
 
-  -- a walk that starts past the table finds nothing
-  pub climbing-past : (at left : ℕ) → Climbing at left → slotCount z ≤ at → 0 ≡ frameOf z (slotAt b) k
-  climbing-past at left w h = sym (past-none left at (w .slots-long) h) ∙ w .same
+  -- a walk that comes past the table finds nothing there
+  pub climbing-past : (at over left : ℕ) → Climbing at over left → slotCount z ≤ at → Reached 0 over
+  climbing-past at over left w h =
+      let none = past-none left at (w .slots-long) h in
+      (sym (none .0) ∙ w .same, sym (ap (λ (n : ℕ). over + n) (none .1) ∙ add-zero over) ∙ w .more)
 
 -- ── the cache's search and insertion ─────────────────────────────────────
 module _ (space page : ℕ) (c : List Place) (n : ℕ) (long : length c ≡ n) (at : ℕ) (is : at ≡ placeFor space page c) where
@@ -144,7 +182,7 @@ module _ (z : Sizes) (b : Tables) (space address rights : ℕ) where
           ap (λ (k : ℕ). cond (notLive b space) 4 (cond (badRights rights) 6 (fromSlot k)))
           (inside-key z space (addressPage address) (nleb→lt (z .spaces) space (rw es tt)) (page-in z address (nleb→lt (memoryBytes z) address (rw ea tt))))
 
-pub translate-number : (z : Sizes) (b : Tables) (space address rights : ℕ)
+translate-number : (z : Sizes) (b : Tables) (space address rights : ℕ)
     → accessNumber z b true space address rights ≡ number z (alone b) (Translate space address rights)
 unfolding accessNumber number cases
 translate-number z b space address rights = ap (λ (n : ℕ). cond (not (soundTest z b)) 1 n) (inside-number z b space address rights)
@@ -168,27 +206,38 @@ pub record Accessible (z : Sizes) (b : Tables) (space address : ℕ) : Type 0 wh
   pub space-in : space < z .spaces
   pub page-in : addressPage address < z .pages
   pub look-right : lookAt z b space (addressPage address)
-      ≡ record { board = looked z b space address; frame = frameOf z (tableOf b) (pageAt z space address); hit = hit b space address }
+      ≡ record {
+        board = looked z b space address;
+        frame = frameOf z (tableOf b) (pageAt z space address);
+        links = linksOf z (tableOf b) (pageAt z space address);
+        hit = hit b space address;
+      }
   pub frame-in : {l : Look} → l ≡ lookAt z b space (addressPage address) → l .frame < z .pages
 
 -- what the code makes of a search of the cache, piece by piece: found and q are what it handed back
 module _ (z : Sizes) (b : Tables) (space page : ℕ) (found : Bool) (is : found ≡ cached space page (b .places)) where
-  pub look-hit : (q : Place) → q ≡ placeAt (b .places) (placeFor space page (b .places)) → found ≡ true
-      → _≡_ {A = Look} (record { board = b; frame = q .frame; hit = true }) (lookAt z b space page)
-  unfolding lookAt
-  look-hit q eq e = rw (eq, sym is ∙ e)
+  module _ (k fr over : ℕ) (ek : k ≡ key z space page) (r : Reached z (b .slots) k fr over) where
+    pub look-hit : (q : Place) → q ≡ placeAt (b .places) (placeFor space page (b .places)) → found ≡ true
+        → _≡_ {A = Look} (record { board = b; frame = q .frame; links = over; hit = true }) (lookAt z b space page)
+    unfolding lookAt
+    look-hit q eq e = rw (eq, r .1, ek, sym is ∙ e)
 
-  pub look-miss : (k at fr : ℕ) → k ≡ key z space page → at ≡ insideOf z k → fr ≡ frameOf z (tableOf b) k → found ≡ false
-      → _≡_ {A = Look}
-      (record { board = withEntry b (record { space = space; page = page; frame = fr; rights = tableOf b at .rights }); frame = fr; hit = false })
-      (lookAt z b space page)
-  unfolding lookAt
-  look-miss k at fr ek ea ef e = rw (ef, ea, ek, sym is ∙ e)
+    pub look-miss : (at : ℕ) → at ≡ insideOf z k → found ≡ false
+        → _≡_ {A = Look}
+        (record { board = withEntry b (record { space = space; page = page; frame = fr; rights = tableOf b at .rights }); frame = fr; links = over; hit = false })
+        (lookAt z b space page)
+    unfolding lookAt
+    look-miss at ea e = rw (r .0, r .1, ea, ek, sym is ∙ e)
 
 -- on a sound board, at a page that is held, the frame is the page's and the board is that of the rules
 module _ (z : Sizes) (b : Tables) (sound : Sound z b) (space address rights : ℕ) (fine : ReadFine z b space address rights) where
   look-is : lookAt z b space (addressPage address)
-      ≡ record { board = looked z b space address; frame = frameOf z (tableOf b) (pageAt z space address); hit = hit b space address }
+      ≡ record {
+        board = looked z b space address;
+        frame = frameOf z (tableOf b) (pageAt z space address);
+        links = linksOf z (tableOf b) (pageAt z space address);
+        hit = hit b space address;
+      }
   unfolding lookAt looked hit
   look-is = go (cached space (addressPage address) (b .places)) refl
     where
@@ -196,8 +245,18 @@ module _ (z : Sizes) (b : Tables) (sound : Sound z b) (space address rights : �
       same = inside-key z space (addressPage address) (fine .space-in) (page-in z address (fine .address-in))
 
       go : (t : Bool) → cached space (addressPage address) (b .places) ≡ t → lookIf t z b space (addressPage address)
-          ≡ record { board = cond t b (withEntry b (entryOf z b space (addressPage address))); frame = frameOf z (tableOf b) (pageAt z space address); hit = t }
-      go true e = λ i. record { board = b; frame = hit-place z b sound space (addressPage address) (true-is _ e) .0 i; hit = true }
+          ≡ record {
+            board = cond t b (withEntry b (entryOf z b space (addressPage address)));
+            frame = frameOf z (tableOf b) (pageAt z space address);
+            links = linksOf z (tableOf b) (pageAt z space address);
+            hit = t;
+          }
+      go true e = λ i. record {
+        board = b;
+        frame = hit-place z b sound space (addressPage address) (true-is _ e) .0 i;
+        links = linksOf z (tableOf b) (pageAt z space address);
+        hit = true;
+      }
       go false e = λ i. record {
         board = withEntry b (record {
           space = space;
@@ -206,6 +265,7 @@ module _ (z : Sizes) (b : Tables) (sound : Sound z b) (space address rights : �
           rights = tableOf b (same i) .rights;
         });
         frame = frameOf z (tableOf b) (pageAt z space address);
+        links = linksOf z (tableOf b) (pageAt z space address);
         hit = false;
       }
 
@@ -222,7 +282,7 @@ module _ (z : Sizes) (b : Tables) (sound : Sound z b) (space address rights : �
           omega arith
       go q i e (no l) = absurd (sound .pages .no-frame q i (omega arith) e)
 
-  pub accessible : Accessible z b space address
+  accessible : Accessible z b space address
   accessible = record {
     space-in = fine .space-in;
     page-in = page-in z address (fine .address-in);
@@ -259,9 +319,9 @@ module _ (z : Sizes) (b : Tables) (space address rights n : ℕ) (is : n ≡ acc
     translate-shows = shown-is z (alone b) (Translate space address rights) n translated done space address rights (translate-fine z (alone b) space address rights)
 
     pub translate-done : (l : Look) (at : ℕ) → l ≡ lookAt z b space (addressPage address) → at ≡ byteAt (l .frame) address
-        → _≡_ {A = Outcome} (record { reply = record { number = 0; emptied = 0; address = at; hit = l .hit; byte = 0 }; state = alone (l .board) })
+        → _≡_ {A = Outcome} (record { reply = record { number = 0; emptied = 0; address = at; hit = l .hit; links = l .links; byte = 0 }; state = alone (l .board) })
         (step z (alone b) (Translate space address rights))
-    unfolding report boardAfter memoryAfter physical
+    unfolding report boardAfter memoryAfter physical linksTo
     translate-done l at el ea = rw (ea, el ∙ translate-shows .look-right) (accepted-is z (alone b) (Translate space address rights) n translated done)
 
 module _ (z : Sizes) (st : State) (space address n : ℕ) (is : n ≡ accessNumber z (st .board) (memoryFits z st) space address readRight) where
@@ -280,7 +340,7 @@ module _ (z : Sizes) (st : State) (space address n : ℕ) (is : n ≡ accessNumb
 
     pub load-done : (l : Look) (at : ℕ) → l ≡ lookAt z (st .board) space (addressPage address) → at ≡ byteAt (l .frame) address
         → _≡_ {A = Outcome}
-        (record { reply = record { number = 0; emptied = 0; address = 0; hit = false; byte = getD (st .memory) at 0 }; state = record { board = l .board; memory = st .memory } })
+        (record { reply = record { number = 0; emptied = 0; address = 0; hit = false; links = 0; byte = getD (st .memory) at 0 }; state = record { board = l .board; memory = st .memory } })
         (step z st (Load space address))
     unfolding report boardAfter memoryAfter physical
     load-done l at el ea = rw (ea, el ∙ load-shows .look-right) (accepted-is z st (Load space address) n loaded done)

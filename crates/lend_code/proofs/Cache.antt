@@ -55,7 +55,7 @@ module _ (z : Sizes) (t : ℕ → Bool) where
   length-dropped [] = refl
   length-dropped (q ∷ c) = ap suc (length-dropped c)
 
-  pub dropped-at : (c : List Place) (j : ℕ) → j < length c → placeAt (droppedWhere z t c) j ≡ kept (placeAt c j)
+  dropped-at : (c : List Place) (j : ℕ) → j < length c → placeAt (droppedWhere z t c) j ≡ kept (placeAt c j)
   dropped-at [] j h = absurd (not-suc-le-zero h)
   dropped-at (q ∷ c) zero h = refl
   dropped-at (q ∷ c) (suc j) h = dropped-at c j (le-of-suc-le-suc h)
@@ -66,7 +66,7 @@ none-lost : {r : ℕ} (q : ℕ) → r ≡ 0 → false ≡ not (within r q)
 unfolding within
 none-lost q e = rw e
 
-pub lost-inside : (z : Sizes) (before after : List ℕ) (k : ℕ) → length before ≡ slotCount z
+lost-inside : (z : Sizes) (before after : List ℕ) (k : ℕ) → length before ≡ slotCount z
     → (ltb k (slotCount z) && not (within (getD before (insideOf z k) 0) (getD after (insideOf z k) 0))) ≡ lostIn before after k
 lost-inside z before after k e = go (ltb k (slotCount z)) refl
   where

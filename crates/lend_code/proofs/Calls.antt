@@ -92,7 +92,7 @@ module _ (z : Sizes) (b : Tables) (s n : ℕ) (is : n ≡ number z (alone b) (Cr
   pub create-done : refuse (alone (withLive b s true)) 0 ≡ step z (alone b) (Create s)
   unfolding boardAfter memoryAfter report
   create-done =
-      (λ i. record { reply = record { number = 0; emptied = sym (emptied-none (b .slots)) i; address = 0; hit = false; byte = 0 }; state = alone (withLive b s true) })
+      (λ i. record { reply = record { number = 0; emptied = sym (emptied-none (b .slots)) i; address = 0; hit = false; links = 0; byte = 0 }; state = alone (withLive b s true) })
       ∙ call-accepted z b (Create s) n is done
 
 module _ (z : Sizes) (one : 1 ≤ z .pages) (b : Tables) (s n : ℕ) (is : n ≡ number z (alone b) (Delete s)) (done : n ≡ 0) where

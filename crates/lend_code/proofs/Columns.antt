@@ -67,10 +67,6 @@ module _ (z : Sizes) where
   unfolding slotsWith
   slots-at b after k h = tabulate-at (λ j. withRights (getD after j 0) (slotAt b j)) (slotCount z) k emptySlot h
 
-  pub slots-past : (b : List Slot) (after : List ℕ) (k : ℕ) → slotCount z ≤ k → slotAt (slotsWith z b after) k ≡ emptySlot
-  unfolding slotsWith
-  slots-past b after k h = tabulate-past (λ j. withRights (getD after j 0) (slotAt b j)) (slotCount z) k emptySlot h
-
   pub line-has-at : (b : List Slot) (set : List Bool) (k : ℕ) → k < slotCount z → getD (lineHas z b set) k false ≡ any (has set) (lineOf z (slotAt b) k)
   unfolding lineHas
   line-has-at b set k h = tabulate-at (λ j. any (has set) (lineOf z (slotAt b) j)) (slotCount z) k false h

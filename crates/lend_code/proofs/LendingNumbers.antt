@@ -67,7 +67,7 @@ pub record NamedFine (z : Sizes) (b : Tables) (s p u v r : ℕ) (shut : Bool) : 
   pub known-rights : r ≤ allRights
   pub not-shut : T (not shut)
 
-pub named-fine : (z : Sizes) (b : Tables) (s p u v r : ℕ) (shut : Bool) → namedNumber z b s p u v r shut ≡ 0 → NamedFine z b s p u v r shut
+named-fine : (z : Sizes) (b : Tables) (s p u v r : ℕ) (shut : Bool) → namedNumber z b s p u v r shut ≡ 0 → NamedFine z b s p u v r shut
 unfolding namedNumber
 named-fine z b s p u v r shut e =
     let n = none-holds (namedCases z b s p u v r shut) tt e in

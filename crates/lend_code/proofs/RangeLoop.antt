@@ -47,14 +47,14 @@ module _ (z : Sizes) (run : RangeOutcome) (page : Outcome) (i : ℕ) where
       go false e = refl
 
   -- a page that is done is counted
-  pub page-done : page .reply .number ≡ 0 → run .done < z .pages → progressOf (madeOne z run page i) ≡ pageMade (progressOf run) i page
+  page-done : page .reply .number ≡ 0 → run .done < z .pages → progressOf (madeOne z run page i) ≡ pageMade (progressOf run) i page
   unfolding madeOne oneMore
   page-done e h =
       rw (e, lt-ltb (run .done) (z .pages) h, and-false (eqb (run .number) 0), add-one (run .done))
       (λ j. record { number = first-stays (run .number) j; done = suc (run .done); offset = run .offset; state = page .state })
 
   -- a page that is refused is passed over: it left the state as it was
-  pub page-passed : (page .reply .number ≡ 0 → ⊥) → page .state ≡ run .state → progressOf (madeOne z run page i) ≡ pageMade (progressOf run) i page
+  page-passed : (page .reply .number ≡ 0 → ⊥) → page .state ≡ run .state → progressOf (madeOne z run page i) ≡ pageMade (progressOf run) i page
   unfolding madeOne
   page-passed e h = rw (ne-eqb (page .reply .number) 0 e, and-true (eqb (run .number) 0), h)
 

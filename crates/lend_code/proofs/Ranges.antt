@@ -13,12 +13,12 @@ use Rattle.lend_code.specs.Ranges.{partCount}
 
 -- ── powers of two ────────────────────────────────────────────────────────
 -- two to a power is above the power
-pub below-power : (k : ℕ) → k < 2 ^ k
+below-power : (k : ℕ) → k < 2 ^ k
 below-power zero = lit< tt
 below-power (suc k) = let h = below-power k in let p = pow-pos k in omega (arith, two-pow-succ k)
 
 -- what the machine has for `1 << k` at 64 bits is two to that power
-pub one-shifted : (k : ℕ) → k < 64 → (1 * 2 ^ k) % 2 ^ 64 ≡ 2 ^ k
+one-shifted : (k : ℕ) → k < 64 → (1 * 2 ^ k) % 2 ^ 64 ≡ 2 ^ k
 one-shifted k h = shl-exact {a = 1} 1 k 64 (lit< tt) (omega arith) ∙ one-mul (2 ^ k)
 
 -- ── how many pages a part has ────────────────────────────────────────────

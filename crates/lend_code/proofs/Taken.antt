@@ -68,7 +68,7 @@ unfolding placeFor
 place-names u v c l = lowest-passes (names u v) c l
 
 -- on a sound cache, to drop the place found for a page is to drop every place that names it
-pub entry-dropped : (z : Sizes) (f : Table) (c : List Place) (next : ℕ) → SoundCache z f c next → (t : ℕ → Bool) (u v : ℕ) → v < z .pages
+entry-dropped : (z : Sizes) (f : Table) (c : List Place) (next : ℕ) → SoundCache z f c next → (t : ℕ → Bool) (u v : ℕ) → v < z .pages
     → droppedWhere z t (dropped c (placeFor u v c)) ≡ droppedWhere z (λ k. t k || eqb k (key z u v)) c
 entry-dropped z f c next sound t u v hv =
     ext-getD emptyPlace (droppedWhere z t (dropped c i)) (droppedWhere z both c)
@@ -149,7 +149,7 @@ module _ (z : Sizes) (b : Tables) (sound : Sound z b) (new : List Slot) (u v : �
   pub taken-is : takenOf z b new u v ≡ record { reply = emptiedReply (b .slots) new; state = alone (withSlots z b new (λ k. eqb k (key z u v))) }
   unfolding takenOf
   taken-is = λ i. record {
-    reply = record { number = 0; emptied = lost-are i; address = 0; hit = false; byte = 0 };
+    reply = record { number = 0; emptied = lost-are i; address = 0; hit = false; links = 0; byte = 0 };
     state = record {
       board = record { slots = new; live = b .live; places = places-are i; next = b .next };
       memory = alone b .memory;

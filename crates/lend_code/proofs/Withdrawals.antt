@@ -95,7 +95,7 @@ module _ (z : Sizes) (b : Tables) (sound : Sound z b) (pages : List Bool) (d : �
   pub withdrawn-is : withdrawnOf z b pages d ≡ record { reply = emptiedReply (b .slots) new; state = alone (withSlots z b new noTaker) }
   unfolding withdrawnOf before after
   withdrawn-is = λ i. record {
-    reply = record { number = 0; emptied = lost-are i; address = 0; hit = false; byte = 0 };
+    reply = record { number = 0; emptied = lost-are i; address = 0; hit = false; links = 0; byte = 0 };
     state = record {
       board = record { slots = slots-are i; live = b .live; places = places-are i; next = b .next };
       memory = alone b .memory;

@@ -7,7 +7,7 @@ use Rattle.lend.specs.Sizes.{Sizes, pageBytes, key}
 use Rattle.lend.specs.Rights.{within}
 use Rattle.lend.specs.Slots.{held}
 use Rattle.lend.specs.Tables.{Tables, tableOf}
-use Rattle.lend.specs.Line.{frameOf}
+use Rattle.lend.specs.Line.{frameOf, linksOf}
 use Rattle.lend.specs.Cache.{placeAt, placeFor, cached}
 use Rattle.lend.specs.SoundTest.{soundTest}
 use Rattle.lend.specs.Numbers.{noSpace, notLive, noAddress, badRights}
@@ -31,10 +31,11 @@ accessNumber z b fits space address rights =
     (cond (not (held (tableOf b (insideOf z (pageAt z space address))))) 11
     (cond (not (within rights (tableOf b (insideOf z (pageAt z space address)) .rights))) 12 0)))))))
 
--- what a look at a page finds: the next board, the page's frame, and whether the page was in the cache
+-- what a look at a page finds: the next board, the page's frame, how many links lead to it, and whether the page was in the cache
 pub record Look : Type 0 where
   pub board : Tables
   pub frame : ℕ
+  pub links : ℕ
   pub hit : Bool
 
 -- the entry of a page, by reads in the table alone
@@ -46,11 +47,12 @@ newEntry z b space page = record {
   rights = tableOf b (insideOf z (key z space page)) .rights;
 }
 
--- a hit takes the frame from the cache and changes nothing; a miss follows the line and puts the entry in
+-- a hit takes the frame from the cache and changes nothing; a miss has it from the line and puts the entry in; the links are the line's
 abbrev pub lookIf : Bool → Sizes → Tables → ℕ → ℕ → Look
 lookIf found z b space page = record {
   board = cond found b (withEntry b (newEntry z b space page));
   frame = cond found (placeAt (b .places) (placeFor space page (b .places)) .frame) (frameOf z (tableOf b) (key z space page));
+  links = linksOf z (tableOf b) (key z space page);
   hit = found;
 }
 

@@ -87,6 +87,12 @@ frameIn Nothing = 0
 frameIn (Frame i) = i
 frameIn (Page s p) = 0
 
+-- how many links a page has that keeps this one: one, or none where it is empty
+abbrev pub linkIn : Link → ℕ
+linkIn Nothing = 0
+linkIn (Frame i) = 1
+linkIn (Page s p) = 1
+
 -- the line above page k, with n pages left to visit from k on, comes to space 0 and has no page in the space of k
 abbrev pub restOk : Sizes → Table → ℕ → ℕ → Link → Bool
 restOk z f k n Nothing = true

@@ -140,7 +140,7 @@ module _ (z : Sizes) (b : Tables) (sound : Sound z b) where
           (record { small = λ k. lit< tt; not-pool = λ k l. refl; down = λ k s p e. within-zero-l 0 (lit< tt) })
 
 -- one call leaves the board less what it takes, and the memory
-pub step-less : (z : Sizes) (st : State) → Sound z (st .board) → (c : Call) → T (withdraws c)
+step-less : (z : Sizes) (st : State) → Sound z (st .board) → (c : Call) → T (withdraws c)
     → step z st c .state ≡ record { board = lessBoard z (st .board) (takes z (st .board) c); memory = st .memory }
 step-less z st sound c w = go (ℕ-discrete (number z st c) 0)
   where

@@ -1,103 +1,123 @@
--- The customer's fault, shut out: after a grant nobody below the giver keeps a right that the giver lost, and every translation
--- goes to the frame at the end of the page's line as the board now is.
+-- The customer's fault, shut out: an accepted grant leaves nothing of the giver's page and of what stood below it, and every
+-- translation goes to the frame at the end of the page's line as the board now is.
 use mathlib.Core.Path.{_≡_, refl, sym, subst, ap, _∙_}
-use mathlib.Core.Bool.{Bool, true, false, not, _&&_, cond}
+use mathlib.Core.Bool.{Bool, true, false, not, _||_, cond}
 use mathlib.Core.List.{List}
-use Prim.Native.Nat.{ℕ, _≤_, _<_}
-use native.Mathlib.Omega.{arith}
-use lib.Dec.{T, eqb}
-use lib.Bits.{bitAnd}
-use lib.ListN.{length}
+use Prim.Native.Nat.{ℕ}
+use lib.Dec.{T, eqb, eqb→eq, eqb-refl, T-not}
 use Rattle.lend.specs.declared.Link.the-variants.{Page}
 use Rattle.lend.specs.declared.Slot.{Slot}
-use Rattle.lend.specs.Sizes.{Sizes, slotCount, key}
-use Rattle.lend.specs.Rights.{less}
+use Rattle.lend.specs.Sizes.{Sizes, key, spaceOf}
+use Rattle.lend.specs.Rights.{allRights}
 use Rattle.lend.specs.Lists.{member}
-use Rattle.lend.specs.Slots.{Table, emptySlot, slotAt, held, cut, lentSlot}
+use Rattle.lend.specs.Slots.{emptySlot, lentSlot, slotAt, held, cut}
 use Rattle.lend.specs.Tables.{Tables, State, tableOf}
-use Rattle.lend.specs.Line.{Line, lineOf, onLine, below}
+use Rattle.lend.specs.Line.{lineOf, onLine, below, meets}
 use Rattle.lend.specs.Sound.{SoundPages, Sound}
 use Rattle.lend.specs.Withdraw.{flushed}
-use Rattle.lend.specs.Lending.{mapped, granted, giverLoses}
+use Rattle.lend.specs.Lending.{mapped}
 use Rattle.lend.specs.Calls.{Call, Grant, Translate, number, step, steps, boardAfter}
-use Rattle.lend_basics.proofs.Bools.{and-l, is-true}
-use Rattle.lend_basics.proofs.Rights.{less-apart, less-none}
-use Rattle.lend_sound.proofs.Lines.{line-unique, the-line}
+use Rattle.lend_basics.proofs.Bools.{and-l, is-true, is-false, differ}
+use Rattle.lend_basics.proofs.Lists.{any-of}
+use Rattle.lend_basics.proofs.Rights.{less-all}
+use Rattle.lend_sound.proofs.Lines.{space-of-key, line-self, line-step, line-apart}
 use Rattle.lend_sound.proofs.SoundTest.{test-sound}
-use Rattle.lend_laws.proofs.Withdraw.{withdraw, Closed, rights-small, not-held, withdraw-sound, is-line-kept}
+use Rattle.lend_laws.proofs.Withdraw.{rights-small, not-held, cut-zero, cut-empty}
 use Rattle.lend_laws.proofs.Flush.{flushed-at}
-use Rattle.lend_laws.proofs.Spaces.{out-of-pool}
 use Rattle.lend_laws.proofs.Accepted.{accepted, tested}
-use Rattle.lend_lending.proofs.Relink.{relink, held-line}
-use Rattle.lend_lending.proofs.Map.{Lendable, amount, amount-closed, mapped-is, mapped-other, mapped-sound, taker-flushed}
-use Rattle.lend_lending.proofs.Grant.{GrantFine, grant-fine, lent-by, parent-lendable, giver-loses-small, granted-is}
+use Rattle.lend_lending.proofs.Map.{Lendable}
+use Rattle.lend_lending.proofs.Grant.{grant-fine, HandedOn, handed-on}
+use Rattle.lend_lending.proofs.Taker.{one-sound, mapped-taker, mapped-apart, mapped-line}
 use Rattle.lend_lending.proofs.Insert.{RightAnswer, translate-right}
-
--- ── a map elsewhere leaves a line alone ──────────────────────────────────
-module _ (z : Sizes) (live : List Bool) (b : List Slot) (len : length live ≡ z .spaces) (long : length b ≡ slotCount z) (sound : SoundPages z live (slotAt b))
-    (s p u v r : ℕ) (m : Lendable z live (slotAt b) s p u v r) (k : ℕ) (other : k ≡ key z u v → ⊥) where
-  -- a page other than the taker that is held after the map has the line it had
-  line-mapped : T (held (slotAt (mapped z s p (key z u v) r b) k)) → lineOf z (slotAt (mapped z s p (key z u v) r b)) k ≡ lineOf z (slotAt b) k
-  line-mapped h =
-      line-unique (the-line z live (slotAt (mapped z s p (key z u v) r b)) len (mapped-sound z live b len long sound s p u v r m) k)
-      (subst (λ (g : Table). Line z g k (lineOf z (slotAt b) k)) (sym (mapped-is z live b len long sound s p u v r m))
-      (held-line z live (withdraw a (slotAt b)) len (withdraw-sound z live (slotAt b) sound a closed) (key z u v) (lentSlot s p r) gone
-      (is-line-kept z live (slotAt b) sound a closed (the-line z live (slotAt b) len sound k) still) still))
-    where
-      a : ℕ → ℕ
-      a = amount z live b len long sound s p u v r m
-
-      closed : Closed z (slotAt b) a
-      closed = amount-closed z live b len long sound s p u v r m
-
-      gone : withdraw a (slotAt b) (key z u v) ≡ emptySlot
-      gone = taker-flushed z live b len long sound s p u v r m
-
-      still : T (held (withdraw a (slotAt b) k))
-      still = subst (λ (x : Slot). T (held x)) (mapped-other z live b len long sound s p u v r m k other) h
+use Rattle.lend_demands.specs.GivenAway.{GivenAway}
 
 -- ── the grant ────────────────────────────────────────────────────────────
--- after a map from the giver's parent and the flush of the giver g of d, a page that was below g has no right of d
-lost-below : (z : Sizes) (b : Tables) → Sound z b → (s p u v r : ℕ) → Lendable z (b .live) (tableOf b) s p u v r → (g d : ℕ) → d < 8
-    → (k : ℕ) → T (onLine z (tableOf b) k g) → (k ≡ key z u v → ⊥)
-    → bitAnd (slotAt (flushed z g d (mapped z s p (key z u v) r (b .slots))) k .rights) d ≡ 0
-lost-below z b sound s p u v r m g d small k on other =
-    ap (λ (x : Slot). bitAnd (x .rights) d) (flushed-at z (b .live) one len one-sound g d k) ∙ go (held (slotAt one k)) refl
-  where
-    one : List Slot
-    one = mapped z s p (key z u v) r (b .slots)
+-- The taker (u, v) may be linked to the giver g, page p of space s, whose parent is page y of space x. It is linked to that parent, and
+-- then g is flushed of every right.
+module _ (z : Sizes) (b : Tables) (sound : Sound z b) (s p u v r : ℕ) (m : Lendable z (b .live) (tableOf b) s p u v r)
+    (x y : ℕ) (up : tableOf b (key z s p) .link ≡ Page x y) (n : Lendable z (b .live) (tableOf b) x y u v r) where
+  one : List Slot
+  one = mapped z x y (key z u v) r (b .slots)
 
-    len : length (b .live) ≡ z .spaces
-    len = sound .shape .live-long
+  one-is-sound : SoundPages z (b .live) (slotAt one)
+  unfolding one
+  one-is-sound = one-sound z b sound x y u v r n
 
-    one-sound : SoundPages z (b .live) (slotAt one)
-    one-sound = mapped-sound z (b .live) (b .slots) len (sound .shape .slots-long) (sound .pages) s p u v r m
+  -- what each page has after the flush
+  then : (k : ℕ) → slotAt (flushed z (key z s p) allRights one) k ≡ cut (cond (onLine z (slotAt one) k (key z s p)) allRights 0) (slotAt one k)
+  unfolding one
+  then k = flushed-at z (b .live) one (sound .shape .live-long) one-is-sound (key z s p) allRights k
 
-    go : (h : Bool) → held (slotAt one k) ≡ h → bitAnd (less (slotAt one k .rights) (cond (onLine z (slotAt one) k g) d 0)) d ≡ 0
-    go true e =
-        let l = line-mapped z (b .live) (b .slots) len (sound .shape .slots-long) (sound .pages) s p u v r m k other (rw e tt) in
-        let o : T (onLine z (slotAt one) k g) = subst (λ (q : List ℕ). T (member g q)) (sym l) on in
-        rw (is-true (onLine z (slotAt one) k g) o) (less-apart (slotAt one k .rights) d (rights-small z (b .live) (slotAt one) one-sound k) small)
-    go false e =
-        let n : slotAt one k ≡ emptySlot = not-held z (b .live) (slotAt one) one-sound k (rw e tt) in
-        ap (λ (x : Slot). bitAnd (less (x .rights) (cond (onLine z (slotAt one) k g) d 0)) d) n
-        ∙ ap (λ (x : ℕ). bitAnd x d) (less-none (cond (onLine z (slotAt one) k g) d 0))
+  -- a page that had the giver on its line is empty, but for the taker
+  gone : (k : ℕ) → T (onLine z (tableOf b) k (key z s p)) → T (not (eqb k (key z u v))) → slotAt (flushed z (key z s p) allRights one) k ≡ emptySlot
+  unfolding one
+  gone k on other = then k ∙ go (held (slotAt one k)) refl
+    where
+      go : (h : Bool) → held (slotAt one k) ≡ h → cut (cond (onLine z (slotAt one) k (key z s p)) allRights 0) (slotAt one k) ≡ emptySlot
+      go true e =
+          let l = mapped-line z b sound x y u v r n k other (rw e tt) in
+          let o : T (onLine z (slotAt one) k (key z s p)) = subst (λ (q : List ℕ). T (member (key z s p) q)) (sym l) on in
+          rw (is-true (onLine z (slotAt one) k (key z s p)) o, less-all (slotAt one k .rights) (rights-small z (b .live) (slotAt one) one-is-sound k))
+      go false e =
+          let w : slotAt one k ≡ emptySlot = not-held z (b .live) (slotAt one) one-is-sound k (rw e tt) in
+          ap (cut (cond (onLine z (slotAt one) k (key z s p)) allRights 0)) w ∙ cut-empty (cond (onLine z (slotAt one) k (key z s p)) allRights 0)
 
--- after an accepted grant no page that was below the giver, the taker aside, has a right that the giver lost by it
+  -- no page on the giver's line is the taker: 13
+  not-taker : (k : ℕ) → T (onLine z (tableOf b) (key z s p) k) → eqb k (key z u v) ≡ false
+  not-taker k on = is-false (eqb k (key z u v)) (λ e. T-not (meets z (tableOf b) (key z s p) u) (m .no-ring) (met (eqb→eq k (key z u v) e)))
+    where
+      met : k ≡ key z u v → T (meets z (tableOf b) (key z s p) u)
+      met e =
+          any-of (λ q. eqb (spaceOf z q) u) k (lineOf z (tableOf b) (key z s p)) on
+          (rw (e, space-of-key z u v (m .taker-page)) (eqb-refl u))
+
+  giver-self : T (onLine z (tableOf b) (key z s p) (key z s p))
+  giver-self = line-self z (b .live) (tableOf b) (sound .shape .live-long) (sound .pages) (key z s p)
+
+  -- the map leaves the giver as it is
+  giver-same : slotAt one (key z s p) ≡ tableOf b (key z s p)
+  unfolding one
+  giver-same =
+      mapped-apart z b sound x y u v r n (key z s p)
+      (λ on. let e = not-taker (key z u v) on in T-not (eqb (key z u v) (key z u v)) (rw e tt) (eqb-refl (key z u v)))
+
+  -- so the giver is not on the taker's line, which goes on from the giver's parent
+  taker-off : onLine z (slotAt one) (key z u v) (key z s p) ≡ false
+  unfolding one
+  taker-off =
+      ap (λ (l : List ℕ). member (key z s p) l)
+      (line-step z (b .live) (slotAt one) (sound .shape .live-long) one-is-sound (key z u v) x y (ap (λ (q : Slot). q .link) (mapped-taker z b sound x y u v r n)))
+      ∙ rw (
+        not-same,
+        is-false (onLine z (slotAt one) (key z x y) (key z s p))
+            (line-apart z (b .live) (slotAt one) (sound .shape .live-long) one-is-sound (key z s p) x y (ap (λ (q : Slot). q .link) giver-same ∙ up)),
+      )
+    where
+      not-same : eqb (key z u v) (key z s p) ≡ false
+      not-same = is-false (eqb (key z u v) (key z s p)) (λ e. let w = not-taker (key z s p) giver-self in T-not (eqb (key z s p) (key z u v)) (rw w tt) (rw (eqb→eq (key z u v) (key z s p) e) (eqb-refl (key z s p))))
+
+  given-away : GivenAway z (tableOf b) (slotAt (flushed z (key z s p) allRights (mapped z x y (key z u v) r (b .slots)))) (key z s p) (key z u v) r
+  unfolding one
+  given-away = record {
+    giver-empty = gone (key z s p) giver-self (rw (not-taker (key z s p) giver-self) tt);
+    below-empty = λ k under other.
+        gone k (and-l (onLine z (tableOf b) k (key z s p)) (not (eqb k (key z s p))) under) (differ k (key z u v) other);
+    taker-has = then (key z u v)
+        ∙ (rw taker-off (cut-zero z (b .live) (slotAt one) one-is-sound (key z u v))
+        ∙ (mapped-taker z b sound x y u v r n ∙ rw up));
+  }
+
+-- M-103: after an accepted grant the giver's page is empty, and so is every page that stood below it, but for the taker, which has the
+-- giver's place with the rights that were granted
 pub grant-withdraws : (z : Sizes) (st : State) (from page to at rights : ℕ) → number z st (Grant from page to at rights) ≡ 0
-    → (k : ℕ) → T (below z (tableOf (st .board)) k (key z from page)) → (k ≡ key z to at → ⊥)
-    → bitAnd (tableOf (step z st (Grant from page to at rights) .state .board) k .rights) (giverLoses rights) ≡ 0
+    → GivenAway z (tableOf (st .board)) (tableOf (step z st (Grant from page to at rights) .state .board)) (key z from page) (key z to at) rights
 unfolding boardAfter
-grant-withdraws z st from page to at rights e k under other =
+grant-withdraws z st from page to at rights e =
     let fine = grant-fine z st from page to at rights e in
-    let m = fine .lendable in
     let sound = test-sound z (st .board) (tested z st (Grant from page to at rights) e) in
-    let g : ℕ = key z from page in
-    let l = lent-by z (st .board .live) (tableOf (st .board)) (sound .pages) g (out-of-pool z from page (fine .giver-out)) (m .giver-held) in
-    let n = parent-lendable z (st .board .live) (tableOf (st .board)) (sound .shape .live-long) (sound .pages) from page to at rights m (l .0) (l .1) (l .2) in
-    let small : giverLoses rights < 8 = giver-loses-small rights (omega (arith, m .known-rights)) in
-    rw (accepted z st (Grant from page to at rights) e, granted-is z g (key z to at) rights (st .board .slots) (l .0) (l .1) (l .2))
-    (lost-below z (st .board) sound (l .0) (l .1) to at rights n g (giverLoses rights) small k (and-l (onLine z (tableOf (st .board)) k g) (not (eqb k g)) under) other)
+    let a = handed-on z (st .board) sound from page to at rights (fine .lendable) (fine .giver-out) in
+    rw (accepted z st (Grant from page to at rights) e, a .is)
+    (given-away z (st .board) sound from page to at rights (fine .lendable) (a .parent-space) (a .parent-page) (a .parent-is) (a .lendable))
 
 -- after any list of calls whatever, a page that translates, hit or miss, does so to the frame at the end of its line on the board as it is
 pub translates-now : (z : Sizes) (st : State) (cs : List Call) (space address rights : ℕ) → number z (steps z st cs) (Translate space address rights) ≡ 0

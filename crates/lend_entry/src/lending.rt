@@ -25,7 +25,7 @@ pub extern "C" fn lend_entry_map(
 {
     let answer = map(read_image(image), from, page, to, at, rights);
     let board = answer.board;
-    finish(image, board, answer.number, answer.emptied, 0, out)
+    finish(image, board, answer.number, answer.emptied, 0, 0, out)
 }
 
 #[no_mangle]
@@ -42,5 +42,5 @@ pub extern "C" fn lend_entry_grant(
 {
     let answer = grant(read_image(image), from, page, to, at, rights);
     let board = answer.board;
-    finish(image, board, answer.number, answer.emptied, 0, out)
+    finish(image, board, answer.number, answer.emptied, 0, 0, out)
 }

@@ -17,7 +17,7 @@ pub extern "C" fn lend_entry_create(image: &mut [u8], space: u32, out: &mut [u32
 {
     let answer = create(read_image(image), space);
     let board = answer.board;
-    finish(image, board, answer.number, answer.emptied, 0, out)
+    finish(image, board, answer.number, answer.emptied, 0, 0, out)
 }
 
 #[no_mangle]
@@ -26,5 +26,5 @@ pub extern "C" fn lend_entry_delete(image: &mut [u8], space: u32, out: &mut [u32
 {
     let answer = delete(read_image(image), space);
     let board = answer.board;
-    finish(image, board, answer.number, answer.emptied, 0, out)
+    finish(image, board, answer.number, answer.emptied, 0, 0, out)
 }

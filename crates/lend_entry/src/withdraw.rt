@@ -23,7 +23,7 @@ pub extern "C" fn lend_entry_unmap(
 {
     let answer = unmap(read_image(image), space, page, rights);
     let board = answer.board;
-    finish(image, board, answer.number, answer.emptied, 0, out)
+    finish(image, board, answer.number, answer.emptied, 0, 0, out)
 }
 
 #[no_mangle]
@@ -38,5 +38,5 @@ pub extern "C" fn lend_entry_flush(
 {
     let answer = flush(read_image(image), space, page, rights);
     let board = answer.board;
-    finish(image, board, answer.number, answer.emptied, 0, out)
+    finish(image, board, answer.number, answer.emptied, 0, 0, out)
 }

@@ -1,8 +1,9 @@
 -- Accepted and refused: what a step is in each case, and what an accepted call has shown.
-use mathlib.Core.Path.{_≡_, refl}
+use mathlib.Core.Path.{_≡_, refl, sym, _∙_}
 use mathlib.Core.Bool.{Bool, true, false, not, _&&_}
 use mathlib.Core.List.{List, [], _∷_}
 use Prim.Native.Nat.{ℕ, _≤_, _<_}
+use native.Mathlib.Decide.{ℕ-discrete}
 use native.Mathlib.Omega.{arith}
 use lib.Dec.{T, eqb, ltb, nleb→lt, nltb→le}
 use borrow.Author.Tests.{eq-eqb, ne-eqb}
@@ -11,7 +12,7 @@ use Rattle.lend.specs.Rights.{allRights}
 use Rattle.lend.specs.Tables.{Tables, State, alive}
 use Rattle.lend.specs.SoundTest.{soundTest}
 use Rattle.lend.specs.Numbers.{Case, _when_, firstOf}
-use Rattle.lend.specs.Calls.{Call, Create, Delete, Unmap, Flush, cases, number, accept, refuse, step}
+use Rattle.lend.specs.Calls.{Call, Create, Delete, Unmap, Flush, Map, Grant, Translate, Load, Store, cases, number, report, accept, refuse, step}
 use Rattle.lend_basics.proofs.Bools.{not-not, not-or, and-l, and-r, positive}
 
 -- ── the step ─────────────────────────────────────────────────────────────
@@ -25,6 +26,27 @@ module _ (z : Sizes) (st : State) (c : Call) where
   pub refused : (number z st c ≡ 0 → ⊥) → step z st c ≡ refuse st (number z st c)
   unfolding step
   refused h = rw (ne-eqb (number z st c) 0 h)
+
+-- an accepted call reports 0
+pub report-number : (z : Sizes) (st : State) (c : Call) → report z st c .number ≡ 0
+unfolding report
+report-number z st (Create s) = refl
+report-number z st (Delete s) = refl
+report-number z st (Unmap s p d) = refl
+report-number z st (Flush s p d) = refl
+report-number z st (Map s p u v r) = refl
+report-number z st (Grant s p u v r) = refl
+report-number z st (Translate s a d) = refl
+report-number z st (Load s a) = refl
+report-number z st (Store s a x) = refl
+
+-- so a step tells the number that its call gives
+pub step-number : (z : Sizes) (st : State) (c : Call) → step z st c .reply .number ≡ number z st c
+step-number z st c = go (ℕ-discrete (number z st c) 0)
+  where
+    go : Dec (number z st c ≡ 0) → step z st c .reply .number ≡ number z st c
+    go (yes e) = rw (accepted z st c e) (report-number z st c ∙ sym e)
+    go (no h) = rw (refused z st c h)
 
 -- ── no case holds ────────────────────────────────────────────────────────
 -- no case of the list has the number 0

@@ -77,7 +77,7 @@ none-lost f g k h = not-not (within (f k .rights) (g k .rights)) h
 
 module _ (z : Sizes) (live : List Bool) (f : Table) (sound : SoundPages z live f) (a : ℕ → ℕ) (closed : Closed z f a) where
   -- a page that lost no right has all its rights
-  pub rights-kept : (k : ℕ) → T (not (lostRight f (withdraw a f) k)) → f k .rights ≡ withdraw a f k .rights
+  rights-kept : (k : ℕ) → T (not (lostRight f (withdraw a f) k)) → f k .rights ≡ withdraw a f k .rights
   rights-kept k h =
       less-whole (f k .rights) (a k) (rights-small z live f sound k) (closed .small k) (none-lost f (withdraw a f) k h)
 

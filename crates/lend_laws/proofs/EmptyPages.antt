@@ -42,7 +42,7 @@ module _ (z : Sizes) (live : List Bool) (f : Table) (len : length live ≡ z .sp
   off-lines k h = is-false (onLine z f k y) (λ o. T-not (held (f y)) empty (on-line-held z live f len sound k y h o))
 
   -- so no page is below it
-  pub nothing-below : (k : ℕ) → below z f k y ≡ false
+  nothing-below : (k : ℕ) → below z f k y ≡ false
   nothing-below k = go (f k .link) refl
     where
       go : (l : Link) → f k .link ≡ l → below z f k y ≡ false
@@ -51,7 +51,7 @@ module _ (z : Sizes) (live : List Bool) (f : Table) (len : length live ≡ z .sp
       go (Page s p) e = rw (off-lines k (rw e tt))
 
   -- and taking rights from each page with the empty page on its line takes none
-  pub nothing-cut : (d k : ℕ) → cut (cond (onLine z f k y) d 0) (f k) ≡ f k
+  nothing-cut : (d k : ℕ) → cut (cond (onLine z f k y) d 0) (f k) ≡ f k
   nothing-cut d k = go (held (f k)) refl
     where
       go : (b : Bool) → held (f k) ≡ b → cut (cond (onLine z f k y) d 0) (f k) ≡ f k
@@ -77,12 +77,12 @@ module _ (z : Sizes) (live : List Bool) (b : List Slot) (len : length live ≡ z
 
 -- ── a board whose slots stay ─────────────────────────────────────────────
 -- where no page passes the test, every place stays
-pub none-dropped : (z : Sizes) (t : ℕ → Bool) (c : List Place) → ((k : ℕ) → t k ≡ false) → droppedWhere z t c ≡ c
+none-dropped : (z : Sizes) (t : ℕ → Bool) (c : List Place) → ((k : ℕ) → t k ≡ false) → droppedWhere z t c ≡ c
 none-dropped z t [] h = refl
 none-dropped z t (q ∷ c) h = rw (h (pageNamed z q)) (ap (λ (l : List Place). q ∷ l) (none-dropped z t c h))
 
 -- where a sound table stays, no page has lost a right
-pub same-not-lost : (z : Sizes) (live : List Bool) (f : Table) → SoundPages z live f → (k : ℕ) → lostRight f f k ≡ false
+same-not-lost : (z : Sizes) (live : List Bool) (f : Table) → SoundPages z live f → (k : ℕ) → lostRight f f k ≡ false
 unfolding lostRight
 same-not-lost z live f sound k =
     rw (is-true (within (f k .rights) (f k .rights)) (within-refl (f k .rights) (rights-small z live f sound k)))
@@ -171,14 +171,6 @@ module _ (z : Sizes) (st : State) (sound : Sound z (st .board)) (s p d : ℕ) (e
       stays-same z st (Flush s p d)
       (board-same z (st .board) sound (flushed z (key z s p) d (st .board .slots))
       (flushed-same z (st .board .live) (st .board .slots) (sound .shape .live-long) (sound .pages) (key z s p) empty d)) refl
-
-  -- the unmap's reply counts no emptied page
-  pub unmap-empty-count : step z st (Unmap s p d) .reply .emptied ≡ 0
-  unmap-empty-count = none-emptied z st (Unmap s p d) unmap-empty
-
-  -- and nor does the flush's
-  pub flush-empty-count : step z st (Flush s p d) .reply .emptied ≡ 0
-  flush-empty-count = none-emptied z st (Flush s p d) flush-empty
 
   -- when it is accepted, the unmap's reply is 0 in every field
   pub unmap-empty-reply : number z st (Unmap s p d) ≡ 0 → step z st (Unmap s p d) .reply ≡ plainReply 0 0

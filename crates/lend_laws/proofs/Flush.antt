@@ -90,7 +90,7 @@ module _ (z : Sizes) (live : List Bool) (f : Table) (len : length live ≡ z .sp
   }
 
   -- so does being below a page
-  pub below-down : (y : ℕ) → Down z f (λ k. below z f k y)
+  below-down : (y : ℕ) → Down z f (λ k. below z f k y)
   below-down y = record {
     not-pool = λ k h. below-top z live f len sound k y (pool-top z live f len sound k h);
     down = λ k s p e h.

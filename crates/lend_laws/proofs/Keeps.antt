@@ -1,4 +1,4 @@
--- create, delete, unmap and flush keep a sound board sound, and a page that stays held keeps its line.
+-- create, delete, unmap and flush keep a sound board sound, and only withdraw.
 use mathlib.Core.Path.{_≡_, refl, sym, subst, _∙_, fun-ext}
 use mathlib.Core.Bool.{Bool, true, false, _||_, cond}
 use mathlib.Core.List.{List}
@@ -12,14 +12,14 @@ use Rattle.lend.specs.Sizes.{Sizes, key}
 use Rattle.lend.specs.Rights.{allRights}
 use Rattle.lend.specs.Slots.{Table, slotAt, held}
 use Rattle.lend.specs.Tables.{Tables, State, tableOf}
-use Rattle.lend.specs.Line.{lineOf, onLine, below, meets}
+use Rattle.lend.specs.Line.{onLine, below, meets}
 use Rattle.lend.specs.Cache.{droppedWhere, lostRight}
 use Rattle.lend.specs.Sound.{SoundPages, SoundCache, Sound}
 use Rattle.lend.specs.Withdraw.{unmapped, flushed}
 use Rattle.lend.specs.Spaces.{wiped}
 use Rattle.lend.specs.Calls.{Call, Create, Delete, Unmap, Flush, Map, Grant, Translate, Load, Store, number, withSlots, noTaker, withLive, boardAfter, step}
 use Rattle.lend_basics.proofs.Rights.{within-zero-l}
-use Rattle.lend_laws.proofs.Withdraw.{cut-zero, withdraw, Closed, withdraw-sound, link-kept, lineOf-kept}
+use Rattle.lend_laws.proofs.Withdraw.{cut-zero, withdraw, Closed, withdraw-sound, link-kept}
 use Rattle.lend_laws.proofs.Flush.{length-unmapped, length-flushed, unmap-closed, flush-closed, unmapped-is, flushed-is}
 use Rattle.lend_laws.proofs.Spaces.{out-of-pool, length-wiped, wiped-closed, wiped-is, wiped-gone, create-live, delete-live}
 use Rattle.lend_laws.proofs.CacheDrops.{length-dropped, withdraw-cache}
@@ -33,27 +33,23 @@ pub record Withdrawn (z : Sizes) (f g : Table) : Type 0 where
   pub is : g ≡ withdraw amounts f
 
 -- no change is a withdrawal of nothing
-pub none-withdrawn : (z : Sizes) (live : List Bool) (f : Table) → SoundPages z live f → Withdrawn z f f
+none-withdrawn : (z : Sizes) (live : List Bool) (f : Table) → SoundPages z live f → Withdrawn z f f
 none-withdrawn z live f sound = record {
   amounts = λ k. 0;
   closed = record { small = λ k. lit< tt; not-pool = λ k h. refl; down = λ k s p e. within-zero-l 0 (lit< tt) };
   is = sym (fun-ext (cut-zero z live f sound));
 }
 
--- a page that is held after a withdrawal has its old line and its old link
-pub withdrawn-line : (z : Sizes) (live : List Bool) (f g : Table) → SoundPages z live f → Withdrawn z f g → (k : ℕ) → T (held (g k))
-    → (lineOf z g k ≡ lineOf z f k) × (g k .link ≡ f k .link)
-withdrawn-line z live f g sound w k h =
-    rw (w .is)
-    (lineOf-kept z live f sound (w .amounts) (w .closed) k t, link-kept z live f sound (w .amounts) (w .closed) k t)
-  where
-    t : T (held (withdraw (w .amounts) f k))
-    t = subst (λ (x : Table). T (held (x k))) (w .is) h
+-- a page that is held after a withdrawal has its old link
+pub withdrawn-link : (z : Sizes) (live : List Bool) (f g : Table) → SoundPages z live f → Withdrawn z f g → (k : ℕ) → T (held (g k))
+    → g k .link ≡ f k .link
+withdrawn-link z live f g sound w k h =
+    rw (w .is) (link-kept z live f sound (w .amounts) (w .closed) k (subst (λ (x : Table). T (held (x k))) (w .is) h))
 
 -- ── boards ───────────────────────────────────────────────────────────────
 module _ (z : Sizes) (b : Tables) (sound : Sound z b) where
   -- a board whose slots change by a withdrawal, with the entries of the pages that lose a right dropped
-  pub slots-sound : (new : List Slot) → length new ≡ length (b .slots)
+  slots-sound : (new : List Slot) → length new ≡ length (b .slots)
       → Withdrawn z (tableOf b) (slotAt new) → Sound z (withSlots z b new noTaker)
   slots-sound new len w = record {
     shape = record {
@@ -69,7 +65,7 @@ module _ (z : Sizes) (b : Tables) (sound : Sound z b) where
   }
 
   -- a board whose live list changes at one space
-  pub live-sound : (s : ℕ) (is : Bool) → SoundPages z (set (b .live) s is) (tableOf b) → Sound z (withLive b s is)
+  live-sound : (s : ℕ) (is : Bool) → SoundPages z (set (b .live) s is) (tableOf b) → Sound z (withLive b s is)
   live-sound s is pages = record {
     shape = record {
       slots-long = sound .shape .slots-long;
@@ -83,7 +79,7 @@ module _ (z : Sizes) (b : Tables) (sound : Sound z b) where
 -- ── the four calls ───────────────────────────────────────────────────────
 module _ (z : Sizes) (some-page : 1 ≤ z .pages) (b : Tables) (sound : Sound z b) where
   -- a create leaves the slots
-  pub create-withdrawn : (s : ℕ) → Withdrawn z (tableOf b) (tableOf (boardAfter z b (Create s)))
+  create-withdrawn : (s : ℕ) → Withdrawn z (tableOf b) (tableOf (boardAfter z b (Create s)))
   unfolding boardAfter
   create-withdrawn s = none-withdrawn z (b .live) (tableOf b) (sound .pages)
 
@@ -119,14 +115,14 @@ module _ (z : Sizes) (some-page : 1 ≤ z .pages) (b : Tables) (sound : Sound z 
   }
 
   -- an accepted create keeps the board sound
-  pub create-sound : (s : ℕ) → CreateFine z b s → Sound z (boardAfter z b (Create s))
+  create-sound : (s : ℕ) → CreateFine z b s → Sound z (boardAfter z b (Create s))
   unfolding boardAfter
   create-sound s fine =
       live-sound z b sound s true
       (create-live z (b .live) (tableOf b) s (omega (arith, fine .space-in, sound .shape .live-long)) (sound .pages))
 
   -- so does an accepted delete
-  pub delete-sound : (s : ℕ) → DeleteFine z b s → Sound z (boardAfter z b (Delete s))
+  delete-sound : (s : ℕ) → DeleteFine z b s → Sound z (boardAfter z b (Delete s))
   unfolding boardAfter
   delete-sound s fine =
       live-sound z (withSlots z b (wiped z s (b .slots)) noTaker) after s false
@@ -140,13 +136,13 @@ module _ (z : Sizes) (some-page : 1 ≤ z .pages) (b : Tables) (sound : Sound z 
       after = slots-sound z b sound (wiped z s (b .slots)) (length-wiped z s (b .slots)) (wiped-withdrawn s out)
 
   -- an accepted unmap
-  pub unmap-sound : (s p d : ℕ) → PageFine z b s p d → Sound z (boardAfter z b (Unmap s p d))
+  unmap-sound : (s p d : ℕ) → PageFine z b s p d → Sound z (boardAfter z b (Unmap s p d))
   unfolding boardAfter
   unmap-sound s p d fine =
       slots-sound z b sound (unmapped z (key z s p) d (b .slots)) (length-unmapped z (key z s p) d (b .slots)) (unmap-withdrawn s p d fine)
 
   -- and an accepted flush
-  pub flush-sound : (s p d : ℕ) → 1 ≤ s → PageFine z b s p d → Sound z (boardAfter z b (Flush s p d))
+  flush-sound : (s p d : ℕ) → 1 ≤ s → PageFine z b s p d → Sound z (boardAfter z b (Flush s p d))
   unfolding boardAfter
   flush-sound s p d out fine =
       slots-sound z b sound (flushed z (key z s p) d (b .slots)) (length-flushed z (key z s p) d (b .slots)) (flush-withdrawn s p d out fine)
@@ -180,7 +176,8 @@ module _ (z : Sizes) (some-page : 1 ≤ z .pages) (st : State) (sound : Sound z 
   accepted-sound (Load space address) y e = absurd y
   accepted-sound (Store space address byte) y e = absurd y
 
-  accepted-withdrawn : (c : Call) → Plain c → number z st c ≡ 0 → Withdrawn z (tableOf (st .board)) (tableOf (boardAfter z (st .board) c))
+  -- an accepted one only withdraws
+  pub accepted-withdrawn : (c : Call) → Plain c → number z st c ≡ 0 → Withdrawn z (tableOf (st .board)) (tableOf (boardAfter z (st .board) c))
   accepted-withdrawn (Create s) y e = create-withdrawn z some-page (st .board) sound s
   accepted-withdrawn (Delete s) y e = delete-withdrawn z some-page (st .board) sound s (delete-fine z st s e)
   accepted-withdrawn (Unmap s p d) y e = unmap-withdrawn z some-page (st .board) sound s p d (unmap-fine z st s p d e)
@@ -199,21 +196,3 @@ keeps-sound z some-page st sound c y = go (ℕ-discrete (number z st c) 0)
     go : Dec (number z st c ≡ 0) → Sound z (step z st c .state .board)
     go (yes e) = rw (accepted z st c e) (accepted-sound z some-page st sound c y e)
     go (no h) = rw (refused z st c h) sound
-
--- and withdraws from pages, no more
-pub step-withdrawn : (z : Sizes) → 1 ≤ z .pages → (st : State) → Sound z (st .board) → (c : Call) → Plain c
-    → Withdrawn z (tableOf (st .board)) (tableOf (step z st c .state .board))
-step-withdrawn z some-page st sound c y = go (ℕ-discrete (number z st c) 0)
-  where
-    go : Dec (number z st c ≡ 0) → Withdrawn z (tableOf (st .board)) (tableOf (step z st c .state .board))
-    go (yes e) = rw (accepted z st c e) (accepted-withdrawn z some-page st sound c y e)
-    go (no h) = rw (refused z st c h) (none-withdrawn z (st .board .live) (tableOf (st .board)) (sound .pages))
-
--- so a page that is held after the call has the line and the link that it had before
-pub held-keeps-line : (z : Sizes) → 1 ≤ z .pages → (st : State) → Sound z (st .board) → (c : Call) → Plain c
-    → (k : ℕ) → T (held (tableOf (step z st c .state .board) k))
-    → (lineOf z (tableOf (step z st c .state .board)) k ≡ lineOf z (tableOf (st .board)) k)
-    × (tableOf (step z st c .state .board) k .link ≡ tableOf (st .board) k .link)
-held-keeps-line z some-page st sound c y k h =
-    withdrawn-line z (st .board .live) (tableOf (st .board)) (tableOf (step z st c .state .board)) (sound .pages)
-    (step-withdrawn z some-page st sound c y) k h

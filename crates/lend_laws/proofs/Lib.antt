@@ -3,6 +3,7 @@ pub mod CacheDrops
 pub mod Flush
 pub mod Spaces
 pub mod Accepted
+pub mod Numbers
 pub mod Emptied
 pub mod Keeps
 pub mod EmptyPages

@@ -82,7 +82,7 @@ cond-lt true = lit< tt
 cond-lt false = lit< tt
 
 -- flushing pages keeps their number
-pub length-wipedTo : (z : Sizes) (s n : ℕ) (b : List Slot) → length (wipedTo z s n b) ≡ length b
+length-wipedTo : (z : Sizes) (s n : ℕ) (b : List Slot) → length (wipedTo z s n b) ≡ length b
 unfolding wipedTo
 length-wipedTo z s zero b = refl
 length-wipedTo z s (suc n) b = length-flushed z (key z s n) allRights (wipedTo z s n b) ∙ length-wipedTo z s n b
@@ -93,7 +93,7 @@ length-wiped z s b = length-wipedTo z s (z .pages) b
 
 module _ (z : Sizes) (live : List Bool) (f : Table) (len : length live ≡ z .spaces) (sound : SoundPages z live f) (s : ℕ) (out : 1 ≤ s) where
   -- the amounts of the flushes of a space's first n pages together
-  pub reached-closed : (n : ℕ) → Closed z f (λ k. cond (reached z f s n k) allRights 0)
+  reached-closed : (n : ℕ) → Closed z f (λ k. cond (reached z f s n k) allRights 0)
   reached-closed n =
       down-closed z f (λ k. reached z f s n k) allRights (lit< tt)
       (line-down z live f len sound (isPage z s n) (λ k l. is-false (isPage z s n k) (λ t. no k l (some-one n (λ p. eqb k (key z s p)) t))))
@@ -112,14 +112,14 @@ module _ (z : Sizes) (live : List Bool) (f : Table) (len : length live ≡ z .sp
 
 module _ (z : Sizes) (live : List Bool) (b : List Slot) (len : length live ≡ z .spaces) (sound : SoundPages z live (slotAt b)) (s : ℕ) (out : 1 ≤ s) where
   -- flushing the first pages of a space keeps a sound table sound
-  pub wipedTo-sound : (n : ℕ) → SoundPages z live (slotAt (wipedTo z s n b))
+  wipedTo-sound : (n : ℕ) → SoundPages z live (slotAt (wipedTo z s n b))
   unfolding wipedTo
   wipedTo-sound zero = sound
   wipedTo-sound (suc n) =
       flushed-sound z live (wipedTo z s n b) len (wipedTo-sound n) (key z s n) allRights (out-of-pool z s n out) (lit< tt)
 
   -- and takes all rights from the pages with one of them on their line
-  pub wipedTo-at : (n k : ℕ) → slotAt (wipedTo z s n b) k ≡ cut (cond (reached z (slotAt b) s n k) allRights 0) (slotAt b k)
+  wipedTo-at : (n k : ℕ) → slotAt (wipedTo z s n b) k ≡ cut (cond (reached z (slotAt b) s n k) allRights 0) (slotAt b k)
   unfolding wipedTo some
   wipedTo-at zero k = sym (rw (any-none (lineOf z (slotAt b) k)) (cut-zero z live (slotAt b) sound k))
   wipedTo-at (suc n) k =
@@ -168,7 +168,7 @@ module _ (z : Sizes) (live : List Bool) (b : List Slot) (len : length live ≡ z
 
 -- ── the live list ────────────────────────────────────────────────────────
 -- with more spaces live a sound table is sound
-pub more-live : (z : Sizes) (live more : List Bool) (f : Table) → ((x : ℕ) → T (alive live x) → T (alive more x))
+more-live : (z : Sizes) (live more : List Bool) (f : Table) → ((x : ℕ) → T (alive live x) → T (alive more x))
     → SoundPages z live f → SoundPages z more f
 more-live z live more f h sound = record {
   pool-live = h 0 (sound .pool-live);

@@ -1,8 +1,7 @@
 -- Withdrawal: each page loses an amount of rights of its own, and a child all that its parent loses.
 use mathlib.Core.Path.{_≡_, refl, sym, ap, _∙_}
 use mathlib.Core.Bool.{Bool, true, false, not, cond}
-use mathlib.Core.List.{List, _∷_}
-use mathlib.Core.Option.{some}
+use mathlib.Core.List.{List}
 use Prim.Native.Nat.{ℕ, zero, suc, _≤_, _<_}
 use native.Mathlib.Nat.{le-of-suc-le-suc}
 use native.Mathlib.Decide.{decLt}
@@ -16,10 +15,10 @@ use Rattle.lend.specs.Sizes.{Sizes, key, spaceOf}
 use Rattle.lend.specs.Rights.{less, within}
 use Rattle.lend.specs.Slots.{Table, emptySlot, frameSlot, linked, held, linkLeft, cut}
 use Rattle.lend.specs.Tables.{alive}
-use Rattle.lend.specs.Line.{Line, ends, climbs, parent, line, lineOf, onLine, below, meets, frame, frameOf}
+use Rattle.lend.specs.Line.{Line, line, lineOf, onLine, below, meets, frame, frameOf}
 use Rattle.lend.specs.Sound.{Lent, Rooted, SoundPages}
 use Rattle.lend_basics.proofs.Rights.{join, less-none, less-lt, less-zero, less-less, less-within-less, within-zero}
-use Rattle.lend_sound.proofs.Lines.{parent-link}
+use Rattle.lend_sound.proofs.Lines.{is-line-same, line-same, frame-same}
 
 -- ── one slot ─────────────────────────────────────────────────────────────
 -- a link that is left is the old one
@@ -35,7 +34,7 @@ pub right-link : (r : ℕ) (l : Link) → 1 ≤ r → linkLeft r l ≡ l
 right-link r l h = rw (ne-eqb r 0 (λ e. omega arith))
 
 -- and a link that stays shows a right
-pub link-right : (r : ℕ) (l : Link) → T (linked (linkLeft r l)) → 1 ≤ r
+link-right : (r : ℕ) (l : Link) → T (linked (linkLeft r l)) → 1 ≤ r
 link-right zero l h = absurd h
 link-right (suc r) l h = omega arith
 
@@ -123,7 +122,7 @@ pub record Closed (z : Sizes) (f : Table) (a : ℕ → ℕ) : Type 0 where
 
 module _ (z : Sizes) (live : List Bool) (f : Table) (sound : SoundPages z live f) (a : ℕ → ℕ) (closed : Closed z f a) where
   -- what is left of a page is among what is left of its parent
-  pub left-within : (k s p : ℕ) → f k .link ≡ Page s p
+  left-within : (k s p : ℕ) → f k .link ≡ Page s p
       → T (within (less (f k .rights) (a k)) (less (f (key z s p) .rights) (a (key z s p))))
   left-within k s p e =
       less-within-less (f k .rights) (f (key z s p) .rights) (a (key z s p)) (a k)
@@ -147,7 +146,7 @@ module _ (z : Sizes) (live : List Bool) (f : Table) (sound : SoundPages z live f
   pos-left k h l = rw (right-link (less (f k .rights) (a k)) (f k .link) l) h
 
   -- the parent of a page that is still held is still held
-  pub parent-kept : (k s p : ℕ) → f k .link ≡ Page s p → T (held (withdraw a f k)) → T (held (withdraw a f (key z s p)))
+  parent-kept : (k s p : ℕ) → f k .link ≡ Page s p → T (held (withdraw a f k)) → T (held (withdraw a f (key z s p)))
   parent-kept k s p e h = pos-left (key z s p) (sound .lent k s p e .parent-held) (go (less (f (key z s p) .rights) (a (key z s p))) refl)
     where
       go : (n : ℕ) → less (f (key z s p) .rights) (a (key z s p)) ≡ n → 1 ≤ less (f (key z s p) .rights) (a (key z s p))
@@ -158,29 +157,16 @@ module _ (z : Sizes) (live : List Bool) (f : Table) (sound : SoundPages z live f
           omega arith
       go (suc n) q = omega arith
 
-  -- the page above a page that is still held is still held
-  above-kept : (k q : ℕ) → parent z f k ≡ some q → T (held (withdraw a f k)) → T (held (withdraw a f q))
-  above-kept k q e h = let r = parent-link z f k q e in rw (r .3) at (parent-kept k (r .0) (r .1) (r .2) h)
-
   -- the line of a page that is still held is what it was
-  pub is-line-kept : {k : ℕ} {l : List ℕ} → Line z f k l → T (held (withdraw a f k)) → Line z (withdraw a f) k l
-  is-line-kept {k} (ends e) h = ends {k = k} (rw (link-kept k h) e)
-  is-line-kept {k} (climbs {q = q} e r) h = climbs {k = k} {q = q} (rw (link-kept k h) e) (is-line-kept r (above-kept k q e h))
+  is-line-kept : {k : ℕ} {l : List ℕ} → Line z f k l → T (held (withdraw a f k)) → Line z (withdraw a f) k l
+  is-line-kept = is-line-same z f (withdraw a f) (λ k. T (held (withdraw a f k))) link-kept parent-kept
 
   -- and so is the line as it is computed
-  pub line-kept : (n k : ℕ) → T (held (withdraw a f k)) → line z (withdraw a f) n k ≡ line z f n k
-  unfolding line
-  line-kept zero k h = refl
-  line-kept (suc n) k h = go (λ q. line-kept n q) (f k .link) refl
-    where
-      go : ((q : ℕ) → T (held (withdraw a f q)) → line z (withdraw a f) n q ≡ line z f n q)
-          → (l : Link) → f k .link ≡ l → line z (withdraw a f) (suc n) k ≡ line z f (suc n) k
-      go ih Nothing e = rw (link-kept k h, e)
-      go ih (Frame i) e = rw (link-kept k h, e)
-      go ih (Page s p) e = rw (link-kept k h, e) (ap (λ (l : List ℕ). k ∷ l) (ih (key z s p) (parent-kept k s p e h)))
+  line-kept : (n k : ℕ) → T (held (withdraw a f k)) → line z (withdraw a f) n k ≡ line z f n k
+  line-kept = line-same z f (withdraw a f) (λ k. T (held (withdraw a f k))) link-kept parent-kept
 
   -- followed as far as there are spaces, too
-  pub lineOf-kept : (k : ℕ) → T (held (withdraw a f k)) → lineOf z (withdraw a f) k ≡ lineOf z f k
+  lineOf-kept : (k : ℕ) → T (held (withdraw a f k)) → lineOf z (withdraw a f) k ≡ lineOf z f k
   lineOf-kept k h = line-kept (z .spaces) k h
 
   -- so the same pages are on it
@@ -196,16 +182,8 @@ module _ (z : Sizes) (live : List Bool) (f : Table) (sound : SoundPages z live f
   meets-kept k s h = rw (lineOf-kept k h)
 
   -- and ends at the same frame
-  pub frame-kept : (n k : ℕ) → T (held (withdraw a f k)) → frame z (withdraw a f) n k ≡ frame z f n k
-  unfolding frame
-  frame-kept zero k h = refl
-  frame-kept (suc n) k h = go (λ q. frame-kept n q) (f k .link) refl
-    where
-      go : ((q : ℕ) → T (held (withdraw a f q)) → frame z (withdraw a f) n q ≡ frame z f n q)
-          → (l : Link) → f k .link ≡ l → frame z (withdraw a f) (suc n) k ≡ frame z f (suc n) k
-      go ih Nothing e = rw (link-kept k h, e)
-      go ih (Frame i) e = rw (link-kept k h, e)
-      go ih (Page s p) e = rw (link-kept k h, e) (ih (key z s p) (parent-kept k s p e h))
+  frame-kept : (n k : ℕ) → T (held (withdraw a f k)) → frame z (withdraw a f) n k ≡ frame z f n k
+  frame-kept = frame-same z f (withdraw a f) (λ k. T (held (withdraw a f k))) link-kept parent-kept
 
   -- followed as far as there are spaces, too
   pub frameOf-kept : (k : ℕ) → T (held (withdraw a f k)) → frameOf z (withdraw a f) k ≡ frameOf z f k

@@ -28,7 +28,7 @@ module _ (z : Sizes) (some-page : 1 ≤ z .pages) (st : State) (sound : Sound z 
       go (no n) = rw (refused z st c n) sound
 
   -- an accepted translate keeps a sound board sound
-  pub translate-sound : (space address rights : ℕ) → number z st (Translate space address rights) ≡ 0
+  translate-sound : (space address rights : ℕ) → number z st (Translate space address rights) ≡ 0
       → Sound z (boardAfter z (st .board) (Translate space address rights))
   unfolding boardAfter
   translate-sound space address rights e =
@@ -36,14 +36,14 @@ module _ (z : Sizes) (some-page : 1 ≤ z .pages) (st : State) (sound : Sound z 
       looked-sound z (st .board) sound space address (r .address-in) (r .is-held)
 
   -- so does an accepted load
-  pub load-sound : (space address : ℕ) → number z st (Load space address) ≡ 0 → Sound z (boardAfter z (st .board) (Load space address))
+  load-sound : (space address : ℕ) → number z st (Load space address) ≡ 0 → Sound z (boardAfter z (st .board) (Load space address))
   unfolding boardAfter
   load-sound space address e =
       let r = load-fine z st space address e .0 in
       looked-sound z (st .board) sound space address (r .address-in) (r .is-held)
 
   -- and an accepted store
-  pub store-sound : (space address byte : ℕ) → number z st (Store space address byte) ≡ 0
+  store-sound : (space address byte : ℕ) → number z st (Store space address byte) ≡ 0
       → Sound z (boardAfter z (st .board) (Store space address byte))
   unfolding boardAfter
   store-sound space address byte e =
@@ -106,7 +106,7 @@ memory-long z st c = go (ℕ-discrete (number z st c) 0)
     go (no n) = rw (refused z st c n)
 
 -- nor does a list of calls
-pub steps-memory-long : (z : Sizes) (st : State) (cs : List Call) → length (steps z st cs .memory) ≡ length (st .memory)
+steps-memory-long : (z : Sizes) (st : State) (cs : List Call) → length (steps z st cs .memory) ≡ length (st .memory)
 unfolding steps
 steps-memory-long z st [] = refl
 steps-memory-long z st (c ∷ cs) = steps-memory-long z (step z st c .state) cs ∙ memory-long z st c

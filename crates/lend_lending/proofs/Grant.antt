@@ -123,7 +123,7 @@ module _ (z : Sizes) (live : List Bool) (b : List Slot) (len : length live ≡ z
       (amount-closed z live b len long sound s p u v r m .small k))
 
   -- after a map and a flush, a place whose page is not the taker and has all its rights still names it
-  pub flushed-names : (q : Place) → Names z (slotAt b) q → (pageNamed z q ≡ key z u v → ⊥)
+  flushed-names : (q : Place) → Names z (slotAt b) q → (pageNamed z q ≡ key z u v → ⊥)
       → T (within (slotAt b (pageNamed z q) .rights) (slotAt (flushed z g d (mapped z s p (key z u v) r b)) (pageNamed z q) .rights))
       → Names z (slotAt (flushed z g d (mapped z s p (key z u v) r b))) q
   unfolding one
@@ -177,26 +177,47 @@ pub granted-is : (z : Sizes) (g t r : ℕ) (b : List Slot) (s p : ℕ) → slotA
 unfolding granted
 granted-is z g t r b s p e = rw e
 
+-- what a grant does to the slots: a map to the taker from the giver's parent, and then a flush of the giver
+pub record HandedOn (z : Sizes) (b : Tables) (s p u v r : ℕ) : Type 0 where
+  pub parent-space : ℕ
+  pub parent-page : ℕ
+  pub parent-is : tableOf b (key z s p) .link ≡ Page parent-space parent-page
+  pub lendable : Lendable z (b .live) (tableOf b) parent-space parent-page u v r
+  pub giver-out : z .pages ≤ key z s p
+  pub loss-small : giverLoses r < 8
+  pub is : granted z (key z s p) (key z u v) r (b .slots)
+      ≡ flushed z (key z s p) (giverLoses r) (mapped z parent-space parent-page (key z u v) r (b .slots))
+
+-- every accepted grant does that
+pub handed-on : (z : Sizes) (b : Tables) → Sound z b → (s p u v r : ℕ) → Lendable z (b .live) (tableOf b) s p u v r → 1 ≤ s
+    → HandedOn z b s p u v r
+handed-on z b sound s p u v r m out =
+    let l = lent-by z (b .live) (tableOf b) (sound .pages) (key z s p) (out-of-pool z s p out) (m .giver-held) in
+    record {
+      parent-space = l .0;
+      parent-page = l .1;
+      parent-is = l .2;
+      lendable = parent-lendable z (b .live) (tableOf b) (sound .shape .live-long) (sound .pages) s p u v r m (l .0) (l .1) (l .2);
+      giver-out = out-of-pool z s p out;
+      loss-small = giver-loses-small r (omega (arith, m .known-rights));
+      is = granted-is z (key z s p) (key z u v) r (b .slots) (l .0) (l .1) (l .2);
+    }
+
 -- an accepted grant keeps a sound board sound
 pub grant-sound : (z : Sizes) (b : Tables) → Sound z b → (s p u v r : ℕ) → Lendable z (b .live) (tableOf b) s p u v r → 1 ≤ s
     → Sound z (boardAfter z b (Grant s p u v r))
 unfolding boardAfter
-grant-sound z b sound s p u v r m out =
-    let l = lent-by z (b .live) (tableOf b) (sound .pages) (key z s p) (out-of-pool z s p out) (m .giver-held) in
-    go (l .0) (l .1) (l .2)
+grant-sound z b sound s p u v r m out = go (handed-on z b sound s p u v r m out)
   where
-    small : giverLoses r < 8
-    small = giver-loses-small r (omega (arith, m .known-rights))
-
-    go : (x y : ℕ) → tableOf b (key z s p) .link ≡ Page x y
-        → Sound z (withSlots z b (granted z (key z s p) (key z u v) r (b .slots)) (λ k. eqb k (key z u v)))
-    go x y e =
-        let n = parent-lendable z (b .live) (tableOf b) (sound .shape .live-long) (sound .pages) s p u v r m x y e in
-        subst (λ (new : List Slot). Sound z (withSlots z b new (λ k. eqb k (key z u v)))) (sym (granted-is z (key z s p) (key z u v) r (b .slots) x y e))
+    go : HandedOn z b s p u v r → Sound z (withSlots z b (granted z (key z s p) (key z u v) r (b .slots)) (λ k. eqb k (key z u v)))
+    go h =
+        let x : ℕ = h .parent-space in
+        let y : ℕ = h .parent-page in
+        subst (λ (new : List Slot). Sound z (withSlots z b new (λ k. eqb k (key z u v)))) (sym (h .is))
         (taken-sound z b sound (flushed z (key z s p) (giverLoses r) (mapped z x y (key z u v) r (b .slots))) (key z u v)
         (length-flushed z (key z s p) (giverLoses r) (mapped z x y (key z u v) r (b .slots)) ∙ length-mapped z x y (key z u v) r (b .slots))
         (flushed-sound z (b .live) (mapped z x y (key z u v) r (b .slots)) (sound .shape .live-long)
-        (mapped-sound z (b .live) (b .slots) (sound .shape .live-long) (sound .shape .slots-long) (sound .pages) x y u v r n)
-        (key z s p) (giverLoses r) (out-of-pool z s p out) small)
-        (flushed-names z (b .live) (b .slots) (sound .shape .live-long) (sound .shape .slots-long) (sound .pages) x y u v r n
-        (key z s p) (giverLoses r) (out-of-pool z s p out) small))
+        (mapped-sound z (b .live) (b .slots) (sound .shape .live-long) (sound .shape .slots-long) (sound .pages) x y u v r (h .lendable))
+        (key z s p) (giverLoses r) (h .giver-out) (h .loss-small))
+        (flushed-names z (b .live) (b .slots) (sound .shape .live-long) (sound .shape .slots-long) (sound .pages) x y u v r (h .lendable)
+        (key z s p) (giverLoses r) (h .giver-out) (h .loss-small)))

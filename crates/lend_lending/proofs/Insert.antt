@@ -12,17 +12,19 @@ use lib.Seq.{getD-set-same, getD-set-other}
 use borrow.Author.Tests.{eq-eqb, ltb-true, ltb-false}
 use Rattle.lend.specs.declared.Link.the-variants.{Frame}
 use Rattle.lend.specs.declared.Place.{Place}
+use Rattle.lend.specs.declared.Slot.{Slot}
 use Rattle.lend.specs.Sizes.{Sizes, pageBytes, memoryBytes, key, spaceOf}
 use Rattle.lend.specs.Rights.{readRight, writeRight, within}
-use Rattle.lend.specs.Slots.{Table, held}
+use Rattle.lend.specs.Slots.{Table, held, slotAt}
 use Rattle.lend.specs.Tables.{Tables, State, tableOf, alive}
-use Rattle.lend.specs.Line.{onLine, frameOf}
+use Rattle.lend.specs.Line.{lineOf, onLine, frameOf, linksOf}
 use Rattle.lend.specs.Cache.{emptyPlace, filled, pageNamed, placeAt, names, lowest, placeFor, cached, emptyIn, anyEmpty, goesTo, nextAfter, inserted}
 use Rattle.lend.specs.Sound.{Names, SoundCache, Sound}
-use Rattle.lend.specs.Translate.{addressPage, pageAt, physical, hit, entryOf, withEntry, looked}
+use Rattle.lend.specs.Translate.{addressPage, pageAt, physical, linksTo, hit, entryOf, withEntry, looked}
 use Rattle.lend.specs.Calls.{Translate, Load, Store, Outcome, cases, number, report, boardAfter, step}
 use Rattle.lend_basics.proofs.Bools.{and-l, and-r, and-i, not-not, differ}
 use Rattle.lend_sound.proofs.Lines.{space-of-key, alive-in, held-live}
+use Rattle.lend_sound.proofs.Links.{links-are-pages}
 use Rattle.lend_sound.proofs.Places.{lowest-of, filled-in, key-space, key-page}
 use Rattle.lend_sound.proofs.SoundTest.{test-sound}
 use Rattle.lend_laws.proofs.Withdraw.{held-pos}
@@ -62,7 +64,7 @@ hit-place z b sound space page h =
 
 -- ── a miss ───────────────────────────────────────────────────────────────
 -- a page that is not in the cache is named by no filled place
-pub miss-none : (space page : ℕ) (c : List Place) → cached space page c ≡ false → (i : ℕ) → T (filled (placeAt c i))
+miss-none : (space page : ℕ) (c : List Place) → cached space page c ≡ false → (i : ℕ) → T (filled (placeAt c i))
     → placeAt c i .space ≡ space → placeAt c i .page ≡ page → ⊥
 unfolding cached placeFor
 miss-none space page c e i t es ep =
@@ -76,7 +78,7 @@ miss-none space page c e i t es ep =
     omega arith
 
 -- a new entry goes to one of the places
-pub goes-in : (c : List Place) (next : ℕ) → next < length c → goesTo c next < length c
+goes-in : (c : List Place) (next : ℕ) → next < length c → goesTo c next < length c
 unfolding goesTo
 goes-in c next h = go (anyEmpty c) refl
   where
@@ -98,7 +100,7 @@ next-stays c next n len h = go (anyEmpty c)
     go false = turn (ltb (suc next) (length c)) refl
 
 -- an entry put in for a page that was not in the cache keeps the cache sound
-pub insert-sound : (z : Sizes) (f : Table) (c : List Place) (next : ℕ) (q : Place) → length c ≡ z .places → Names z f q → T (filled q)
+insert-sound : (z : Sizes) (f : Table) (c : List Place) (next : ℕ) (q : Place) → length c ≡ z .places → Names z f q → T (filled q)
     → cached (q .space) (q .page) c ≡ false → SoundCache z f c next → SoundCache z f (inserted c next q) (nextAfter c next)
 insert-sound z f c next q len n t miss sound = record {
   filled-names = λ i h. filled-names i h (ℕ-discrete i (goesTo c next));
@@ -147,7 +149,7 @@ page-in z address h = div-lt-iff-lt-mul (lit< tt) .1 l
     l = omega arith
 
 -- the entry of a held page names it
-pub entry-names : (z : Sizes) (b : Tables) → Sound z b → (space page : ℕ) → page < z .pages → T (held (tableOf b (key z space page)))
+entry-names : (z : Sizes) (b : Tables) → Sound z b → (space page : ℕ) → page < z .pages → T (held (tableOf b (key z space page)))
     → Names z (tableOf b) (entryOf z b space page)
 entry-names z b sound space page l h = record { space-in = in-spaces; page-in = l; is-held = h; its-frame = refl; its-rights = refl }
   where
@@ -240,7 +242,8 @@ module _ (z : Sizes) (st : State) where
 
 -- ── the answer of a translate ────────────────────────────────────────────
 -- an outcome that answers rightly for an address: its frame is at the end of the page's line as the board now is, its
--- address is as far into that frame as the address asked for is into its page, and on a hit the cache had that frame
+-- address is as far into that frame as the address asked for is into its page, its links are as many as that line has pages,
+-- and on a hit the cache had that frame
 pub record RightAnswer (z : Sizes) (before : Tables) (space address : ℕ) (o : Outcome) : Type 0 where
   pub frame : ℕ
   pub last : ℕ
@@ -248,12 +251,13 @@ pub record RightAnswer (z : Sizes) (before : Tables) (space address : ℕ) (o : 
   pub holds-frame : tableOf (o .state .board) last .link ≡ Frame frame
   pub computed : frameOf z (tableOf (o .state .board)) (pageAt z space address) ≡ frame
   pub its-address : o .reply .address ≡ pageBytes * frame + address % pageBytes
+  pub its-links : o .reply .links ≡ length (lineOf z (tableOf (o .state .board)) (pageAt z space address))
   pub on-hit : T (o .reply .hit) → placeAt (before .places) (placeFor space (addressPage address) (before .places)) .frame ≡ frame
 
 -- an accepted translate answers rightly
 pub translate-right : (z : Sizes) (st : State) (space address rights : ℕ) → number z st (Translate space address rights) ≡ 0
     → RightAnswer z (st .board) space address (step z st (Translate space address rights))
-unfolding report boardAfter physical hit
+unfolding report boardAfter physical linksTo hit
 translate-right z st space address rights e =
     rw (accepted z st (Translate space address rights) e)
     (record {
@@ -263,6 +267,9 @@ translate-right z st space address rights e =
       holds-frame = rw (looked-slots z b space address) (r .2);
       computed = rw (looked-slots z b space address);
       its-address = refl;
+      its-links = rw (looked-slots z b space address)
+          (links-are-pages z (b .live) (tableOf b) (sound .shape .live-long) (sound .pages) (pageAt z space address)
+          (translate-fine z st space address rights e .is-held));
       on-hit = λ h. hit-place z b sound space (addressPage address) h .0;
     })
   where
@@ -276,3 +283,12 @@ translate-right z st space address rights e =
     r =
         frame-held z (b .live) (tableOf b) (sound .shape .live-long) (sound .pages) (pageAt z space address)
         (translate-fine z st space address rights e .is-held)
+
+-- a hit reports the links that a miss would: on two boards with the same pages, whatever is in their caches, they are as many
+pub hit-links-as-miss : (z : Sizes) (st other : State) → st .board .slots ≡ other .board .slots → (space address rights : ℕ)
+    → number z st (Translate space address rights) ≡ 0 → number z other (Translate space address rights) ≡ 0
+    → step z st (Translate space address rights) .reply .links ≡ step z other (Translate space address rights) .reply .links
+unfolding report linksTo
+hit-links-as-miss z st other same space address rights e f =
+    rw (accepted z st (Translate space address rights) e, accepted z other (Translate space address rights) f)
+    (ap (λ (b : List Slot). linksOf z (slotAt b) (pageAt z space address)) same)

@@ -1,4 +1,5 @@
--- The seven invariants of 003, section 4, on every sound board, and so on every board that calls reach from the start.
+-- The seven invariants of 003, section 4: the third on every board, the others on every sound one, and so all of them on every
+-- board that calls reach from the start.
 use mathlib.Core.Path.{_≡_, refl, sym, subst, ap, _∙_}
 use mathlib.Core.Bool.{Bool, false, not}
 use mathlib.Core.List.{List, _∷_, map}
@@ -55,7 +56,7 @@ module _ (z : Sizes) (live : List Bool) (f : Table) (len : length live ≡ z .sp
       line-step z live f len sound x (r .0) (r .1) (r .2) ∙ ap (λ (n : ℕ). x ∷ lineOf z f n) (r .3)
 
   -- the page that links lead up to is on the line
-  pub up-on-line : {x y : ℕ} → Up z f x y → T (onLine z f x y)
+  up-on-line : {x y : ℕ} → Up z f x y → T (onLine z f x y)
   up-on-line {x} {y} (first e) = rw (line-up x y e) (or-r (eqb x y) (onLine z f y y) (line-self z live f len sound y))
   up-on-line {x} {y} (further {w = w} e u) = rw (line-up x w e) (or-r (eqb x y) (onLine z f w y) (up-on-line u))
 
@@ -84,18 +85,6 @@ module _ (z : Sizes) (live : List Bool) (f : Table) (len : length live ≡ z .sp
       go ih (inr t) (yes d) = first {x = x} (e ∙ ap some d)
       go ih (inr t) (no d) = further {x = x} {w = w} e (ih t d)
 
-  -- a page is below just those that links lead up to from it
-  pub below-is-up : (x y : ℕ) → T (below z f x y) ↔ Up z f x y
-  below-is-up x y = (to, from)
-    where
-      to : T (below z f x y) → Up z f x y
-      to h =
-          line-to-up (the-line z live f len sound x) y (and-l (onLine z f x y) (not (eqb x y)) h)
-          (λ e. T-not (eqb x y) (and-r (onLine z f x y) (not (eqb x y)) h) (rw e (eqb-refl y)))
-
-      from : Up z f x y → T (below z f x y)
-      from u = and-i (onLine z f x y) (not (eqb x y)) (up-on-line u) (differ x y (λ e. up-apart u (ap (spaceOf z) e)))
-
   line-to-frame : {x : ℕ} {l : List ℕ} → Line z f x l → T (held (f x)) → ToFrame z f x (frameOf z f x)
   line-to-frame {x} (ends e) h = go (f x .link) refl h
     where
@@ -108,7 +97,7 @@ module _ (z : Sizes) (live : List Bool) (f : Table) (len : length live ≡ z .sp
       (subst (λ (i : ℕ). ToFrame z f w i) (sym (frame-up z live f len sound x w e)) (line-to-frame a (parent-held z live f len sound x w e)))
 
   -- links lead from a held page up to its frame
-  pub held-to-frame : (x : ℕ) → T (held (f x)) → ToFrame z f x (frameOf z f x)
+  held-to-frame : (x : ℕ) → T (held (f x)) → ToFrame z f x (frameOf z f x)
   held-to-frame x h = line-to-frame (the-line z live f len sound x) h
 
 frame-to-held : {z : Sizes} {f : Table} {x i : ℕ} → ToFrame z f x i → T (held (f x))
@@ -158,6 +147,14 @@ one-frame-only {z} {f} {x} {i} {j} (above {w = w} e u) (above {w = y} d v) =
     let q : y ≡ w = cc in
     one-frame-only u (subst (λ (k : ℕ). ToFrame z f k j) q v)
 
+-- a page has one parent and one frame: on every board, sound or not, as a page has one link
+pub invariant-3 : (z : Sizes) (b : Tables) → OneParent z b
+invariant-3 z b = record {
+  one-link = λ x l m e d. sym e ∙ d;
+  one-parent = λ x y w e d. let n : some y ≡ some w = sym e ∙ d in cc;
+  one-frame = λ x i j u v. one-frame-only u v;
+}
+
 module _ (z : Sizes) (b : Tables) (sound : Sound z b) where
   -- no page is lent to a space that it came through
   pub invariant-1 : NoRing z b
@@ -169,14 +166,6 @@ module _ (z : Sizes) (b : Tables) (sound : Sound z b) where
     λ h. (frameOf z (tableOf b) x, held-to-frame z (b .live) (tableOf b) (sound .shape .live-long) (sound .pages) x h),
     λ r. frame-to-held (r .1),
   )
-
-  -- a page has one parent and one frame (this is so on every board: a link is one value)
-  pub invariant-3 : OneParent z b
-  invariant-3 = record {
-    one-link = λ x l m e d. sym e ∙ d;
-    one-parent = λ x y w e d. let n : some y ≡ some w = sym e ∙ d in cc;
-    one-frame = λ x i j u v. one-frame-only u v;
-  }
 
   -- a page whose last right went is empty
   pub invariant-4 : HeldHasRight b
@@ -229,11 +218,11 @@ pub record Invariants (z : Sizes) (b : Tables) : Type 0 where
   pub named-once : NamedOnce b
 
 -- a sound board has all seven
-pub sound-invariants : (z : Sizes) (b : Tables) → Sound z b → Invariants z b
+sound-invariants : (z : Sizes) (b : Tables) → Sound z b → Invariants z b
 sound-invariants z b sound = record {
   no-ring = invariant-1 z b sound;
   held-has-frame = invariant-2 z b sound;
-  one-parent = invariant-3 z b sound;
+  one-parent = invariant-3 z b;
   held-has-right = invariant-4 z b sound;
   parent-has-rights = invariant-5 z b sound;
   cache-agrees = invariant-6 z b sound;

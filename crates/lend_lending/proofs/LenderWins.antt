@@ -23,7 +23,7 @@ pub record Backed (z : Sizes) (f : Table) (k : ℕ) : Type 0 where
   pub contained : T (within (f k .rights) (f (key z lender-space lender-page) .rights))
 
 -- on a sound board every held page outside space 0 is backed
-pub sound-backed : (z : Sizes) (b : Tables) → Sound z b → (k : ℕ) → z .pages ≤ k → T (held (tableOf b k)) → Backed z (tableOf b) k
+sound-backed : (z : Sizes) (b : Tables) → Sound z b → (k : ℕ) → z .pages ≤ k → T (held (tableOf b k)) → Backed z (tableOf b) k
 sound-backed z b sound k out h =
     let l = lent-by z (b .live) (tableOf b) (sound .pages) k out h in
     let c = sound .pages .lent k (l .0) (l .1) (l .2) in

@@ -1,6 +1,7 @@
 pub mod Relink
 pub mod Map
 pub mod Grant
+pub mod Taker
 pub mod Frames
 pub mod Insert
 pub mod Always

@@ -195,11 +195,6 @@ module _ (z : Sizes) (live : List Bool) (b : List Slot) (len : length live ≡ z
     no-ring = rw (space-of-key z u v (m .taker-page), meets-kept z live (slotAt b) sound amount amount-closed (key z s p) u giver-still) (m .no-ring);
   }
 
-  -- the flush leaves the taker empty
-  pub taker-flushed : withdraw amount (slotAt b) (key z u v) ≡ emptySlot
-  unfolding mid
-  taker-flushed = taker-gone
-
   -- a map is the flush of the taker, and then its link to the giver
   pub mapped-is : slotAt (mapped z s p (key z u v) r b) ≡ relink (key z u v) (lentSlot s p r) (withdraw amount (slotAt b))
   unfolding mapped amount

@@ -2,37 +2,19 @@
 use mathlib.Core.Path.{_≡_, refl, ap, _∙_}
 use mathlib.Core.Bool.{Bool, true, false, cond}
 use Prim.Native.Nat.{ℕ, zero, suc, _≤_}
-use native.Mathlib.Decide.{ℕ-discrete}
 use lib.Dec.{eqb}
 use lib.ListN.{length}
 use Rattle.lend.specs.Sizes.{Sizes}
 use Rattle.lend.specs.Tables.{State}
 use Rattle.lend.specs.Sound.{Sound}
-use Rattle.lend.specs.Calls.{Call, Create, Delete, Unmap, Flush, Map, Grant, Translate, Load, Store, Outcome, number, report, step}
+use Rattle.lend.specs.Calls.{Call, Outcome, step}
 use Rattle.lend.specs.Ranges.{RangeCall, rangeNumber, rangePages, pageCall, Progress, pageMade, pageDone, pagePassed, rangeTo, rangeDone, rangeRefused, rangeStep}
-use Rattle.lend_laws.proofs.Accepted.{accepted, refused}
+use Rattle.lend_laws.proofs.Accepted.{refused, step-number}
 use Rattle.lend_lending.proofs.Always.{step-sound, memory-long}
 
--- an accepted call reports 0
-done-told : (z : Sizes) (st : State) (c : Call) → report z st c .number ≡ 0
-unfolding report
-done-told z st (Create s) = refl
-done-told z st (Delete s) = refl
-done-told z st (Unmap s p r) = refl
-done-told z st (Flush s p r) = refl
-done-told z st (Map s p u v r) = refl
-done-told z st (Grant s p u v r) = refl
-done-told z st (Translate s a r) = refl
-done-told z st (Load s a) = refl
-done-told z st (Store s a x) = refl
-
--- so a call that reports another number has left the state as it was
+-- a call that reports another number than 0 has left the state as it was
 pub passed-state : (z : Sizes) (st : State) (c : Call) → (step z st c .reply .number ≡ 0 → ⊥) → step z st c .state ≡ st
-passed-state z st c h = go (ℕ-discrete (number z st c) 0)
-  where
-    go : Dec (number z st c ≡ 0) → step z st c .state ≡ st
-    go (yes e) = absurd (h (ap (λ (o : Outcome). o .reply .number) (accepted z st c e) ∙ done-told z st c))
-    go (no n) = ap (λ (o : Outcome). o .state) (refused z st c n)
+passed-state z st c h = ap (λ (o : Outcome). o .state) (refused z st c (λ e. h (step-number z st c ∙ e)))
 
 -- what holds of the state before a page and of the state after its call holds of the state it leaves
 made : (P : State → Type 0) (p : Progress) (i : ℕ) (o : Outcome) → P (p .state) → P (o .state) → P (pageMade p i o .state)
@@ -51,7 +33,7 @@ module _ (z : Sizes) (P : State → Type 0) (keeps : (st : State) → P st → (
       (keeps (rangeTo z st c n .state) (pages-keep n) (pageCall z c n))
 
   -- what a one-page call keeps, a call over a range keeps
-  pub range-keeps : P (rangeStep z st c .state)
+  range-keeps : P (rangeStep z st c .state)
   unfolding rangeStep
   range-keeps = go (eqb (rangeNumber z st c) 0)
     where
@@ -62,7 +44,3 @@ module _ (z : Sizes) (P : State → Type 0) (keeps : (st : State) → P st → (
 -- a call over a range, done or refused, leaves a sound board sound
 pub range-sound : (z : Sizes) → 1 ≤ z .pages → (st : State) → Sound z (st .board) → (c : RangeCall) → Sound z (rangeStep z st c .state .board)
 range-sound z some-page st sound c = range-keeps z (λ x. Sound z (x .board)) (step-sound z some-page) st sound c
-
--- and memory as long as it was
-pub range-memory-long : (z : Sizes) (st : State) (c : RangeCall) → length (rangeStep z st c .state .memory) ≡ length (st .memory)
-range-memory-long z st c = range-keeps z (λ x. length (x .memory) ≡ length (st .memory)) (λ x e d. memory-long z x d ∙ e) st refl c

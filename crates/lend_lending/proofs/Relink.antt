@@ -2,13 +2,12 @@
 use mathlib.Core.Path.{_≡_, refl, sym, ap, _∙_}
 use mathlib.Core.Bool.{Bool, not, cond}
 use mathlib.Core.List.{List, _∷_, map}
-use Prim.Native.Nat.{ℕ, zero, suc, _≤_, _<_}
+use Prim.Native.Nat.{ℕ, _≤_, _<_}
 use native.Mathlib.Decide.{ℕ-discrete}
 use native.Mathlib.Omega.{arith}
 use lib.Dec.{T, eqb, T-not}
 use lib.ListN.{length}
 use borrow.Author.Tests.{eq-eqb, ne-eqb}
-use Rattle.lend.specs.declared.Link.{Link}
 use Rattle.lend.specs.declared.Link.the-variants.{Nothing, Frame, Page}
 use Rattle.lend.specs.declared.Slot.{Slot}
 use Rattle.lend.specs.declared.Place.{Place}
@@ -17,12 +16,12 @@ use Rattle.lend.specs.Rights.{allRights, within}
 use Rattle.lend.specs.Lists.{any, member, distinct}
 use Rattle.lend.specs.Slots.{Table, emptySlot, lentSlot, held}
 use Rattle.lend.specs.Tables.{alive}
-use Rattle.lend.specs.Line.{Line, ends, climbs, lineOf, meets, frame}
+use Rattle.lend.specs.Line.{Line, climbs, lineOf, meets, frame}
 use Rattle.lend.specs.Cache.{pageNamed}
 use Rattle.lend.specs.Sound.{Lent, Rooted, SoundPages, Names}
 use Rattle.lend_basics.proofs.Bools.{and-i, or-r}
 use Rattle.lend_basics.proofs.Lists.{any-map}
-use Rattle.lend_sound.proofs.Lines.{line-unique, the-line, line-reaches, line-once, parent-held}
+use Rattle.lend_sound.proofs.Lines.{is-line-same, frame-same, line-unique, the-line, line-reaches, line-once}
 
 -- page t gets the slot x, the others keep theirs
 abbrev pub relink : ℕ → Slot → Table → Table
@@ -42,22 +41,19 @@ module _ (z : Sizes) (live : List Bool) (f : Table) (len : length live ≡ z .sp
   pub held-same : (k : ℕ) → T (held (f k)) → relink t x f k ≡ f k
   held-same k h = relink-other t x f k (λ e. let n : T (held emptySlot) = rw (e, gone) at h in n)
 
+  held-link : (k : ℕ) → T (held (f k)) → relink t x f k .link ≡ f k .link
+  held-link k h = ap (λ (y : Slot). y .link) (held-same k h)
+
+  held-up : (k s p : ℕ) → f k .link ≡ Page s p → T (held (f k)) → T (held (f (key z s p)))
+  held-up k s p e h = sound .lent k s p e .parent-held
+
   -- and its line
-  pub held-line : {k : ℕ} {l : List ℕ} → Line z f k l → T (held (f k)) → Line z (relink t x f) k l
-  held-line {k} (ends e) h = ends {k = k} (rw (held-same k h) e)
-  held-line {k} (climbs {q = q} e a) h = climbs {k = k} {q = q} (rw (held-same k h) e) (held-line a (parent-held z live f len sound k q e))
+  held-line : {k : ℕ} {l : List ℕ} → Line z f k l → T (held (f k)) → Line z (relink t x f) k l
+  held-line = is-line-same z f (relink t x f) (λ k. T (held (f k))) held-link held-up
 
   -- and its frame
-  pub held-frame : (n k : ℕ) → T (held (f k)) → frame z (relink t x f) n k ≡ frame z f n k
-  unfolding frame
-  held-frame zero k h = refl
-  held-frame (suc n) k h = go (λ q. held-frame n q) (f k .link) refl
-    where
-      go : ((q : ℕ) → T (held (f q)) → frame z (relink t x f) n q ≡ frame z f n q)
-          → (l : Link) → f k .link ≡ l → frame z (relink t x f) (suc n) k ≡ frame z f (suc n) k
-      go ih Nothing e = rw (held-same k h, e)
-      go ih (Frame i) e = rw (held-same k h, e)
-      go ih (Page s p) e = rw (held-same k h, e) (ih (key z s p) (sound .lent k s p e .parent-held))
+  held-frame : (n k : ℕ) → T (held (f k)) → frame z (relink t x f) n k ≡ frame z f n k
+  held-frame = frame-same z f (relink t x f) (λ k. T (held (f k))) held-link held-up
 
   -- so a place of the cache still names its page
   pub held-names : (q : Place) → Names z f q → Names z (relink t x f) q
@@ -178,8 +174,3 @@ module _ (z : Sizes) (live : List Bool) (f : Table) (len : length live ≡ z .sp
           let h′ : T (held (f k)) = rw (other k q) at h in
           let r = sound .rooted k h′ in
           record { pages = r .pages; is-line = was-line (r .is-line) h′; reaches = r .reaches; once = r .once }
-
-  -- the taker's line is the page and then the giver's line
-  pub line-taker : lineOf z (relink t (lentSlot s p r) f) t ≡ t ∷ lineOf z f (key z s p)
-  unfolding after
-  line-taker = line-unique (the-line z live (relink t (lentSlot s p r) f) len relink-sound t) taker-line

@@ -24,7 +24,7 @@ module _ (z w : Sizes) (fits : Fits z w) (two : 2 ≤ z .spaces) (some-page : 1 
   start-wide = ap (λ (b : Tables). record { board = b; memory = memory ++ rest }) (wide-start z w fits two some-page)
 
   -- the same calls get the same numbers, counts, addresses and bytes
-  pub agree-from-start : AllAgree z w rest (startState z memory) (startState w (memory ++ rest)) cs
+  agree-from-start : AllAgree z w rest (startState z memory) (startState w (memory ++ rest)) cs
   agree-from-start =
       let e = wide-start z w fits two some-page in
       same-commands z w fits some-page rest (startState z memory) (startState w (memory ++ rest)) (start-sound z two one)

@@ -75,7 +75,7 @@ module _ (z w : Sizes) (fits : Fits z w) (some-page : 1 ≤ z .pages) (rest : Li
     pub same-reply : step w (wideState z w rest st) c .reply ≡ step z st c .reply
     same-reply =
         let a = wide-agrees in
-        λ i. record { number = a .same-number i; emptied = a .same-emptied i; address = a .same-address i; hit = hit-same i; byte = a .same-byte i }
+        λ i. record { number = a .same-number i; emptied = a .same-emptied i; address = a .same-address i; hit = hit-same i; links = a .same-links i; byte = a .same-byte i }
 
     -- unless it replaces an entry, the state after it is the smaller one made wide
     pub same-state : T (not (replaces (st .board) c && eqb (number z st c) 0))

@@ -1,4 +1,4 @@
--- The same command on both sizes: the same number, emptied, address and byte, and states that embed again (00; 02, M-100).
+-- The same command on both sizes: the same number, emptied, address, links and byte, and states that embed again (00; 02, M-100).
 use mathlib.Core.Path.{_≡_, refl, sym, subst, ap, _∙_}
 use mathlib.Core.Bool.{Bool, true, false, not, _&&_, cond}
 use mathlib.Core.List.{List, [], _∷_, _++_}
@@ -16,15 +16,15 @@ use Rattle.lend.specs.Sound.{Sound}
 use Rattle.lend.specs.Emptied.{emptied}
 use Rattle.lend.specs.Withdraw.{unmapped, flushed}
 use Rattle.lend.specs.Lending.{mapped, granted}
-use Rattle.lend.specs.Translate.{addressPage, physical, hit, entryOf, withEntry, looked}
+use Rattle.lend.specs.Translate.{addressPage, physical, linksTo, hit, entryOf, withEntry, looked}
 use Rattle.lend.specs.Calls.{Call, Create, Delete, Unmap, Flush, Map, Grant, Translate, Load, Store, number, boardAfter, memoryAfter, report, Outcome, accept, refuse, step}
 use Rattle.lend_basics.proofs.Bools.{and-l, and-r, or-l, or-r}
-use Rattle.lend_laws.proofs.Accepted.{accepted, refused, delete-fine}
+use Rattle.lend_laws.proofs.Accepted.{accepted, refused, report-number, delete-fine}
 use Rattle.lend_laws.proofs.Emptied.{looked-slots, emptied-counts}
 use Rattle.lend_laws.proofs.Spaces.{out-of-pool}
 use Rattle.lend_lending.proofs.Map.{key-in, mapped-sound}
 use Rattle.lend_lending.proofs.Grant.{GrantFine, grant-fine, lent-by, parent-lendable}
-use Rattle.lend_lending.proofs.Insert.{page-in, load-fine, store-fine}
+use Rattle.lend_lending.proofs.Insert.{page-in, translate-fine, load-fine, store-fine}
 use Rattle.lend_lending.proofs.Always.{step-sound}
 use Rattle.lend_models.specs.Embedding.{Fits, wideSlots, wideLive}
 use Rattle.lend_models.specs.Agreement.{inLimits, allInLimits, isPage, isAddress, takesMemory, anyMemory, moreBytes, Embeds, Agree, AllAgree}
@@ -33,7 +33,7 @@ use Rattle.lend_models.proofs.WidePages.{two-spaces}
 use Rattle.lend_models.proofs.WideSlots.{rest-same, wide-unmapped, wide-flushed, wide-wiped, wide-mapped, wide-granted, wide-live-set}
 use Rattle.lend_models.proofs.Counts.{count-wide}
 use Rattle.lend_models.proofs.WideMemory.{physical-in, byte-same, store-same}
-use Rattle.lend_models.proofs.SameNumber.{grown, frame-same, number-same, limit-space, limit-page, limit-address}
+use Rattle.lend_models.proofs.SameNumber.{grown, frame-same, links-same, number-same, limit-space, limit-page, limit-address}
 
 -- ── the pages that a call empties ────────────────────────────────────────
 -- a page that is held is not empty
@@ -166,6 +166,21 @@ module _ (z w : Sizes) (fits : Fits z w) (some-page : 1 ≤ z .pages) (rest : Li
   address-after (Load s a) h = refl
   address-after (Store s a byte) h = refl
 
+  -- so are the links to the frame
+  links-after : (c : Call) → T (inLimits z c) → number z st c ≡ 0 → report w large c .links ≡ report z st c .links
+  unfolding report large linksTo
+  links-after (Create s) h e = refl
+  links-after (Delete s) h e = refl
+  links-after (Unmap s p r) h e = refl
+  links-after (Flush s p r) h e = refl
+  links-after (Map s p u v r) h e = refl
+  links-after (Grant s p u v r) h e = refl
+  links-after (Translate s a r) h e =
+      links-same z w fits some-page (st .board .live) (st .board .slots) (sound .shape .live-long) (sound .shape .slots-long) (sound .pages) s (addressPage a)
+      (page-in z a (limit-address z s a h)) (translate-fine z st s a r e .is-held)
+  links-after (Load s a) h e = refl
+  links-after (Store s a byte) h e = refl
+
   -- the same byte is read
   load-after : (s a : ℕ) → T (isAddress z s a) → number z st (Load s a) ≡ 0
       → getD (st .memory ++ rest) (physical w (large .board) s a) 0 ≡ getD (st .memory) (physical z (st .board) s a) 0
@@ -187,19 +202,6 @@ module _ (z w : Sizes) (fits : Fits z w) (some-page : 1 ≤ z .pages) (rest : Li
   byte-after (Translate s a r) h e = refl
   byte-after (Load s a) h e = load-after s a h e
   byte-after (Store s a byte) h e = refl
-
-  -- every accepted call reports 0
-  number-after : (c : Call) → report w large c .number ≡ report z st c .number
-  unfolding report
-  number-after (Create s) = refl
-  number-after (Delete s) = refl
-  number-after (Unmap s p r) = refl
-  number-after (Flush s p r) = refl
-  number-after (Map s p u v r) = refl
-  number-after (Grant s p u v r) = refl
-  number-after (Translate s a r) = refl
-  number-after (Load s a) = refl
-  number-after (Store s a byte) = refl
 
   -- ── a step ─────────────────────────────────────────────────────────────
   module _ (sound-large : Sound w (grown z w rest st places next .board)) (c : Call) (h : T (inLimits z c))
@@ -239,9 +241,10 @@ module _ (z w : Sizes) (fits : Fits z w) (some-page : 1 ≤ z .pages) (rest : Li
     agree-grown : Agree z w rest (step z st c) (step w (grown z w rest st places next) c)
     unfolding large
     agree-grown = record {
-      same-number = either (λ (x y : Outcome). y .reply .number ≡ x .reply .number) (λ e. number-after c) same-given;
+      same-number = either (λ (x y : Outcome). y .reply .number ≡ x .reply .number) (λ e. report-number w large c ∙ sym (report-number z st c)) same-given;
       same-emptied = emptied-after;
       same-address = either (λ (x y : Outcome). y .reply .address ≡ x .reply .address) (λ e. address-after c h) refl;
+      same-links = either (λ (x y : Outcome). y .reply .links ≡ x .reply .links) (λ e. links-after c h e) refl;
       same-byte = either (λ (x y : Outcome). y .reply .byte ≡ x .reply .byte) (λ e. byte-after c h e) refl;
       embeds-again = embeds-after;
     }

@@ -13,9 +13,9 @@ use Rattle.lend.specs.declared.Place.{Place}
 use Rattle.lend.specs.declared.Slot.{Slot}
 use Rattle.lend.specs.Sizes.{Sizes, slotCount, key, spaceOf, memoryBytes}
 use Rattle.lend.specs.Rights.{readRight, writeRight}
-use Rattle.lend.specs.Slots.{slotAt}
+use Rattle.lend.specs.Slots.{slotAt, held}
 use Rattle.lend.specs.Tables.{State, tableOf, alive}
-use Rattle.lend.specs.Line.{below, meets, frameOf}
+use Rattle.lend.specs.Line.{below, meets, frameOf, linksOf}
 use Rattle.lend.specs.Sound.{SoundPages, Sound}
 use Rattle.lend.specs.SoundTest.{soundTest}
 use Rattle.lend.specs.Lending.{grantSource}
@@ -29,7 +29,7 @@ use Rattle.lend_models.specs.Embedding.{Fits, wideSlots, wideLive}
 use Rattle.lend_models.specs.Agreement.{inLimits, isPage, isAddress, takesMemory, moreBytes}
 use Rattle.lend_models.proofs.Wide.{widen, key-widened, space-of-widened, wide-live-at}
 use Rattle.lend_models.proofs.WidePages.{wideTable, two-spaces, slot-widened, lender-widened}
-use Rattle.lend_models.proofs.WideLines.{eqb-widened, below-widened, meets-widened, frame-widened, below-rest}
+use Rattle.lend_models.proofs.WideLines.{eqb-widened, below-widened, meets-widened, frame-widened, links-widened, below-rest}
 use Rattle.lend_models.proofs.Counts.{some-wide}
 use Rattle.lend_models.proofs.WideMemory.{memory-test}
 
@@ -40,11 +40,11 @@ module _ (z w : Sizes) (fits : Fits z w) where
   space-same s h = lt-leb (w .spaces) s (omega (arith, fits .spaces-fit)) ∙ sym (lt-leb (z .spaces) s h)
 
   -- so is a page
-  pub page-same : (p : ℕ) → p < z .pages → noPage w p ≡ noPage z p
+  page-same : (p : ℕ) → p < z .pages → noPage w p ≡ noPage z p
   page-same p h = lt-leb (w .pages) p (omega (arith, fits .pages-fit)) ∙ sym (lt-leb (z .pages) p h)
 
   -- and an address
-  pub address-same : (a : ℕ) → a < memoryBytes z → noAddress w a ≡ noAddress z a
+  address-same : (a : ℕ) → a < memoryBytes z → noAddress w a ≡ noAddress z a
   address-same a h = lt-leb (memoryBytes w) a (omega (arith, fits .pages-fit)) ∙ sym (lt-leb (memoryBytes z) a h)
 
 -- the space of a page within the limits
@@ -56,7 +56,7 @@ pub limit-page : (z : Sizes) (s p : ℕ) → T (isPage z s p) → p < z .pages
 limit-page z s p h = ltb→lt p (z .pages) (and-r (ltb s (z .spaces)) (ltb p (z .pages)) h)
 
 -- the space of an address within the limits
-pub limit-address-space : (z : Sizes) (s a : ℕ) → T (isAddress z s a) → s < z .spaces
+limit-address-space : (z : Sizes) (s a : ℕ) → T (isAddress z s a) → s < z .spaces
 limit-address-space z s a h = ltb→lt s (z .spaces) (and-l (ltb s (z .spaces)) (ltb a (memoryBytes z)) h)
 
 -- and the address
@@ -75,7 +75,7 @@ module _ (z w : Sizes) (fits : Fits z w) (some-page : 1 ≤ z .pages) (live : Li
   slot-same s p h = ap (wideTable z w b) (sym (key-widened z w fits some-page s p h)) ∙ slot-widened z w fits some-page live b len long sound (key z s p)
 
   -- its line meets the same spaces
-  pub meets-same : (s p u : ℕ) → p < z .pages → meets w (wideTable z w b) (key w s p) u ≡ meets z (slotAt b) (key z s p) u
+  meets-same : (s p u : ℕ) → p < z .pages → meets w (wideTable z w b) (key w s p) u ≡ meets z (slotAt b) (key z s p) u
   meets-same s p u h =
       ap (λ (k : ℕ). meets w (wideTable z w b) k u) (sym (key-widened z w fits some-page s p h))
       ∙ meets-widened z w fits some-page live b len long sound (key z s p) u
@@ -85,6 +85,12 @@ module _ (z w : Sizes) (fits : Fits z w) (some-page : 1 ≤ z .pages) (live : Li
   frame-same s p h =
       ap (frameOf w (wideTable z w b)) (sym (key-widened z w fits some-page s p h))
       ∙ frame-widened z w fits some-page live b len long sound (key z s p)
+
+  -- by as many links, where it is held
+  pub links-same : (s p : ℕ) → p < z .pages → T (held (slotAt b (key z s p))) → linksOf w (wideTable z w b) (key w s p) ≡ linksOf z (slotAt b) (key z s p)
+  links-same s p h is =
+      ap (linksOf w (wideTable z w b)) (sym (key-widened z w fits some-page s p h))
+      ∙ links-widened z w fits some-page live b len long sound (key z s p) is
 
   -- 14 holds at both sizes or at none
   source-below-widened : (source taker : ℕ)

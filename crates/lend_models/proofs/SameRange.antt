@@ -377,7 +377,7 @@ power-split a k h =
     ap (λ (n : ℕ). 2 ^ n) e ∙ pow-add 2 (k - a) a
 
 -- where a space has a power of two of pages, every part has all its pages inside
-pub parts-inside : (z : Sizes) (k : ℕ) → z .pages ≡ 2 ^ k → (base size : ℕ) → T (isPart z base size) → T (pagesInside z base size)
+parts-inside : (z : Sizes) (k : ℕ) → z .pages ≡ 2 ^ k → (base size : ℕ) → T (isPart z base size) → T (pagesInside z base size)
 parts-inside z k is base size h =
     rw (part-range z base size h)
     (le→leb (base - base % partPages size + partPages size) (z .pages) inside)

@@ -39,7 +39,7 @@ start-past z k h = tabulate-past (λ k. cond (inPool z k) (frameSlot k) emptySlo
 -- ── one size ─────────────────────────────────────────────────────────────
 module _ (z : Sizes) (some-page : 1 ≤ z .pages) where
   -- a page's number in its space is one of the space's pages
-  pub page-small : (k : ℕ) → pageOf z k < z .pages
+  page-small : (k : ℕ) → pageOf z k < z .pages
   page-small k = mod-lt k some-page
 
   -- a page's number is made of its space and its page
@@ -74,7 +74,7 @@ module _ (z w : Sizes) (fits : Fits z w) (some-page : 1 ≤ z .pages) where
   space-of-widened k = space-of-key w (spaceOf z k) (pageOf z k) (page-fits k)
 
   -- and its number there
-  pub page-of-widened : (k : ℕ) → pageOf w (widen z w k) ≡ pageOf z k
+  page-of-widened : (k : ℕ) → pageOf w (widen z w k) ≡ pageOf z k
   page-of-widened k = page-of-key w wide-page (spaceOf z k) (pageOf z k) (page-fits k)
 
   -- a page of the smaller sizes is shared
@@ -86,7 +86,7 @@ module _ (z w : Sizes) (fits : Fits z w) (some-page : 1 ≤ z .pages) where
       (lt→ltb (spaceOf z k) (z .spaces) (space-small z some-page k h)) (lt→ltb (pageOf z k) (z .pages) (page-small z some-page k)))
 
   -- there and back it has its number again
-  pub narrow-widened : (k : ℕ) → narrow z w (widen z w k) ≡ k
+  narrow-widened : (k : ℕ) → narrow z w (widen z w k) ≡ k
   narrow-widened k = rw (space-of-widened k, page-of-widened k) (key-of-page z some-page k)
 
   -- the space of a shared page is one of the smaller sizes
@@ -100,11 +100,11 @@ module _ (z w : Sizes) (fits : Fits z w) (some-page : 1 ≤ z .pages) where
   shared-page k h = ltb→lt (pageOf w k) (z .pages) (and-r (ltb (spaceOf w k) (z .spaces)) (ltb (pageOf w k) (z .pages)) h)
 
   -- a shared page is that of its number at the smaller sizes
-  pub widen-narrowed : (k : ℕ) → T (shared z w k) → widen z w (narrow z w k) ≡ k
+  widen-narrowed : (k : ℕ) → T (shared z w k) → widen z w (narrow z w k) ≡ k
   widen-narrowed k h = key-widened (spaceOf w k) (pageOf w k) (shared-page k h) ∙ key-of-page w wide-page k
 
   -- which is one of their pages
-  pub narrow-in : (k : ℕ) → T (shared z w k) → narrow z w k < slotCount z
+  narrow-in : (k : ℕ) → T (shared z w k) → narrow z w k < slotCount z
   narrow-in k h = key-in z (spaceOf w k) (pageOf w k) (shared-space k h) (shared-page k h)
 
   -- two pages with one number at the larger sizes are one

@@ -43,7 +43,7 @@ is-wide w c d fit len same =
 
 -- ── lookup ───────────────────────────────────────────────────────────────
 -- a place that names a page has it in the cache
-pub names-cached : (space page : ℕ) (c : List Place) (i : ℕ) → T (names space page (placeAt c i)) → T (cached space page c)
+names-cached : (space page : ℕ) (c : List Place) (i : ℕ) → T (names space page (placeAt c i)) → T (cached space page c)
 unfolding cached placeFor
 names-cached space page c i h =
     let l : i < length c = filled-in c i (search (and-r)) in
@@ -69,7 +69,7 @@ goes-empty c next room = rw (is-true (anyEmpty c) room)
 
 module _ (w : Sizes) (c : List Place) (fit : length c ≤ w .places) (room : T (anyEmpty c)) where
   -- the lowest empty place is the same
-  pub empty-wide : emptyIn (widePlaces w c) ≡ emptyIn c
+  empty-wide : emptyIn (widePlaces w c) ≡ emptyIn c
   unfolding emptyIn
   empty-wide =
       let l : lowest bare c < length c = ltb→lt (lowest bare c) (length c) room in
@@ -92,11 +92,11 @@ module _ (w : Sizes) (c : List Place) (fit : length c ≤ w .places) (room : T (
   empty-in = ltb→lt (emptyIn c) (length c) room
 
   -- the wide cache has an empty place too
-  pub any-empty-wide : T (anyEmpty (widePlaces w c))
+  any-empty-wide : T (anyEmpty (widePlaces w c))
   any-empty-wide = lt→ltb (emptyIn (widePlaces w c)) (length (widePlaces w c)) (omega (arith, empty-wide, empty-in, length-wide-places w c))
 
   -- a new entry goes to the lowest empty place, which is the same in both
-  pub goes-wide : (next : ℕ) → goesTo (widePlaces w c) next ≡ goesTo c next
+  goes-wide : (next : ℕ) → goesTo (widePlaces w c) next ≡ goesTo c next
   goes-wide next = goes-empty (widePlaces w c) next any-empty-wide ∙ (empty-wide ∙ sym (goes-empty c next room))
 
   -- and the next place to replace stays

@@ -5,18 +5,19 @@ use mathlib.Core.List.{List, [], _∷_, map}
 use Prim.Native.Nat.{ℕ, zero, suc, _≤_, _<_}
 use native.Mathlib.Omega.{arith}
 use lib.Dec.{T, eqb, eqb→eq, T-not}
-use lib.ListN.{length}
+use lib.ListN.{length, length-map}
 use borrow.Author.Tests.{eq-eqb, ne-eqb}
 use Rattle.lend.specs.declared.Link.{Link}
 use Rattle.lend.specs.declared.Link.the-variants.{Nothing, Frame, Page}
 use Rattle.lend.specs.declared.Slot.{Slot}
 use Rattle.lend.specs.Sizes.{Sizes, slotCount, key, spaceOf}
 use Rattle.lend.specs.Lists.{any, member}
-use Rattle.lend.specs.Slots.{slotAt}
-use Rattle.lend.specs.Line.{endOf, lineOf, onLine, below, meets, frame, frameOf}
+use Rattle.lend.specs.Slots.{slotAt, held}
+use Rattle.lend.specs.Line.{endOf, lineOf, onLine, below, meets, frame, frameOf, linksOf}
 use Rattle.lend.specs.Sound.{SoundPages}
 use Rattle.lend_basics.proofs.Bools.{same-test, or-false}
 use Rattle.lend_sound.proofs.Lines.{line-unique, the-line, line-fits, line-top, below-top, frame-fuel}
+use Rattle.lend_sound.proofs.Links.{links-are-pages}
 use Rattle.lend_models.specs.Embedding.{Fits, shared, wideLive}
 use Rattle.lend_models.proofs.Wide.{widen, widen-same, widen-shared, space-of-widened, length-wide-live}
 use Rattle.lend_models.proofs.WidePages.{wideTable, slot-widened, lender-widened, is-line-widened, rest-top, wide-pages}
@@ -31,16 +32,16 @@ module _ (z w : Sizes) (fits : Fits z w) (some-page : 1 ≤ z .pages) where
       (λ t. rw (eq-eqb (widen z w j) (widen z w k) (ap (widen z w) (eqb→eq j k t))) tt)
 
   -- a page that is not shared is none of the smaller sizes
-  pub eqb-rest : (k y : ℕ) → T (not (shared z w k)) → y < slotCount z → eqb k (widen z w y) ≡ false
+  eqb-rest : (k y : ℕ) → T (not (shared z w k)) → y < slotCount z → eqb k (widen z w y) ≡ false
   eqb-rest k y n h = ne-eqb k (widen z w y) (λ e. T-not (shared z w k) n (rw e (widen-shared z w fits some-page y h)))
 
   -- a page is in both lists or in none
-  pub member-widened : (y : ℕ) (l : List ℕ) → member (widen z w y) (map (widen z w) l) ≡ member y l
+  member-widened : (y : ℕ) (l : List ℕ) → member (widen z w y) (map (widen z w) l) ≡ member y l
   member-widened y [] = refl
   member-widened y (q ∷ l) = rw (eqb-widened q y, member-widened y l)
 
   -- both lists have a page of the space or none does
-  pub space-in-widened : (s : ℕ) (l : List ℕ) → any (λ q. eqb (spaceOf w q) s) (map (widen z w) l) ≡ any (λ q. eqb (spaceOf z q) s) l
+  space-in-widened : (s : ℕ) (l : List ℕ) → any (λ q. eqb (spaceOf w q) s) (map (widen z w) l) ≡ any (λ q. eqb (spaceOf z q) s) l
   space-in-widened s [] = refl
   space-in-widened s (q ∷ l) = rw (space-of-widened z w fits some-page q, space-in-widened s l)
 
@@ -56,7 +57,7 @@ module _ (z w : Sizes) (fits : Fits z w) (some-page : 1 ≤ z .pages) (live : Li
   long-wide = length-wide-live z w live
 
   -- a page has the same line
-  pub line-widened : (k : ℕ) → lineOf w (wideTable z w b) (widen z w k) ≡ map (widen z w) (lineOf z (slotAt b) k)
+  line-widened : (k : ℕ) → lineOf w (wideTable z w b) (widen z w k) ≡ map (widen z w) (lineOf z (slotAt b) k)
   line-widened k =
       line-unique (the-line w (wideLive z w live) (wideTable z w b) long-wide sound-wide (widen z w k))
       (is-line-widened z w fits some-page live b len long sound (the-line z live (slotAt b) len sound k))
@@ -95,9 +96,15 @@ module _ (z w : Sizes) (fits : Fits z w) (some-page : 1 ≤ z .pages) (live : Li
       fit : length (lineOf z (slotAt b) k) ≤ z .spaces
       fit = line-fits z live (slotAt b) len sound k
 
+  -- and a held page has as many links to it
+  pub links-widened : (k : ℕ) → T (held (slotAt b k)) → linksOf w (wideTable z w b) (widen z w k) ≡ linksOf z (slotAt b) k
+  links-widened k h =
+      links-are-pages w (wideLive z w live) (wideTable z w b) long-wide sound-wide (widen z w k) (rw (slot-widened z w fits some-page live b len long sound k) h)
+      ∙ (ap length (line-widened k) ∙ (length-map (lineOf z (slotAt b) k) (widen z w) ∙ sym (links-are-pages z live (slotAt b) len sound k h)))
+
   -- ── pages that are not shared ──────────────────────────────────────────
   -- such a page is alone on its line
-  pub line-rest : (k : ℕ) → T (not (shared z w k)) → lineOf w (wideTable z w b) k ≡ k ∷ []
+  line-rest : (k : ℕ) → T (not (shared z w k)) → lineOf w (wideTable z w b) k ≡ k ∷ []
   line-rest k n = line-top w (wideLive z w live) (wideTable z w b) long-wide sound-wide k (rest-top z w fits some-page live b len long sound k n)
 
   -- so none of the smaller sizes is on it

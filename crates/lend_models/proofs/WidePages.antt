@@ -31,7 +31,7 @@ module _ (z w : Sizes) (fits : Fits z w) (some-page : 1 ≤ z .pages) where
   each-page P is rest k = shared-or-not z w fits some-page k (P k) (λ j l e. subst P e (is j l)) (rest k)
 
   -- a page is in space 0 at both sizes or at none
-  pub pool-widened : (k : ℕ) → inPool w (widen z w k) ≡ inPool z k
+  pool-widened : (k : ℕ) → inPool w (widen z w k) ≡ inPool z k
   pool-widened k = go (decLt k (z .pages))
     where
       go : Dec (k < z .pages) → inPool w (widen z w k) ≡ inPool z k
@@ -39,12 +39,12 @@ module _ (z w : Sizes) (fits : Fits z w) (some-page : 1 ≤ z .pages) where
       go (no h) = le-ltb (widen z w k) (w .pages) (widen-out z w fits some-page k (omega arith)) ∙ sym (le-ltb k (z .pages) (omega arith))
 
   -- a line keeps its spaces
-  pub spaces-widened : (l : List ℕ) → map (spaceOf w) (map (widen z w) l) ≡ map (spaceOf z) l
+  spaces-widened : (l : List ℕ) → map (spaceOf w) (map (widen z w) l) ≡ map (spaceOf z) l
   spaces-widened [] = refl
   spaces-widened (q ∷ l) = rw (space-of-widened z w fits some-page q, spaces-widened l)
 
   -- and reaches space 0 if it did
-  pub reaches-widened : (l : List ℕ) → any (inPool w) (map (widen z w) l) ≡ any (inPool z) l
+  reaches-widened : (l : List ℕ) → any (inPool w) (map (widen z w) l) ≡ any (inPool z) l
   reaches-widened [] = refl
   reaches-widened (q ∷ l) = rw (pool-widened q, reaches-widened l)
 
@@ -91,7 +91,7 @@ module _ (z w : Sizes) (fits : Fits z w) (some-page : 1 ≤ z .pages) (live : Li
   lender-widened k s p e = key-widened z w fits some-page s p (sound .lent k s p e .page-in)
 
   -- a page with no parent has none
-  pub top-widened : (k : ℕ) → parent z (slotAt b) k ≡ none → parent w (wideTable z w b) (widen z w k) ≡ none
+  top-widened : (k : ℕ) → parent z (slotAt b) k ≡ none → parent w (wideTable z w b) (widen z w k) ≡ none
   top-widened k e = rw (slot-widened k) (go (slotAt b k .link) refl)
     where
       go : (x : Link) → slotAt b k .link ≡ x → parent w (slotAt b) k ≡ none
@@ -100,7 +100,7 @@ module _ (z w : Sizes) (fits : Fits z w) (some-page : 1 ≤ z .pages) (live : Li
       go (Page s p) d = let n : some (key z s p) ≡ none = rw d at e in let x : _≡_ {A = ℕ} 0 1 = cc in absurd (omega arith)
 
   -- and a page with a parent has the same one
-  pub parent-widened : (k q : ℕ) → parent z (slotAt b) k ≡ some q → parent w (wideTable z w b) (widen z w k) ≡ some (widen z w q)
+  parent-widened : (k q : ℕ) → parent z (slotAt b) k ≡ some q → parent w (wideTable z w b) (widen z w k) ≡ some (widen z w q)
   parent-widened k q e =
       let r = parent-link z (slotAt b) k q e in
       link-parent w (wideTable z w b) (widen z w k) (r .0) (r .1) (ap (λ (x : Slot). x .link) (slot-widened k) ∙ r .2)

@@ -45,7 +45,7 @@ module _ (z w : Sizes) (fits : Fits z w) (some-page : 1 ≤ z .pages) where
   rest-same b c k n = wide-rest z w fits some-page b k n ∙ sym (wide-rest z w fits some-page c k n)
 
   -- a slot is set at the same page
-  pub wide-set : (b : List Slot) (t : ℕ) (x : Slot) → length b ≡ slotCount z → t < slotCount z → wideSlots z w (set b t x) ≡ set (wideSlots z w b) (widen z w t) x
+  wide-set : (b : List Slot) (t : ℕ) (x : Slot) → length b ≡ slotCount z → t < slotCount z → wideSlots z w (set b t x) ≡ set (wideSlots z w b) (widen z w t) x
   wide-set b t x long h =
       slots-are (set b t x) (set (wideSlots z w b) (widen z w t) x) (length-set (wideSlots z w b) (widen z w t) x ∙ length-wide z w fits some-page b)
       (λ j l. is j l (ℕ-discrete j t))

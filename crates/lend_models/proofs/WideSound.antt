@@ -19,7 +19,7 @@ use Rattle.lend_models.proofs.WideCache.{length-wide-places, wide-place
 
 module _ (z w : Sizes) (fits : Fits z w) (some-page : 1 ≤ z .pages) (b : Tables) (sound : Sound z b) where
   -- a place of the smaller cache names the same page at both sizes
-  pub named-widened : (q : Place) → Names z (tableOf b) q → pageNamed w q ≡ widen z w (pageNamed z q)
+  named-widened : (q : Place) → Names z (tableOf b) q → pageNamed w q ≡ widen z w (pageNamed z q)
   named-widened q n = sym (key-widened z w fits some-page (q .space) (q .page) (n .page-in))
 
   -- and names it well

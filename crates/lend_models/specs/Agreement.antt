@@ -63,11 +63,12 @@ abbrev pub moreBytes : Sizes → Sizes → ℕ
 moreBytes z w = memoryBytes w - memoryBytes z
 
 -- ── the two outcomes ─────────────────────────────────────────────────────
--- the same number, emptied, address and byte; and states that embed again
+-- the same number, emptied, address, links and byte; and states that embed again
 pub record Agree (z w : Sizes) (rest : List ℕ) (small large : Outcome) : Type 0 where
   pub same-number : large .reply .number ≡ small .reply .number
   pub same-emptied : large .reply .emptied ≡ small .reply .emptied
   pub same-address : large .reply .address ≡ small .reply .address
+  pub same-links : large .reply .links ≡ small .reply .links
   pub same-byte : large .reply .byte ≡ small .reply .byte
   pub embeds-again : Embeds z w rest (small .state) (large .state)
 

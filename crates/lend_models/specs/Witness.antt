@@ -26,4 +26,4 @@ replyAfter z cs = step z (steps z (alone (startBoard z)) cs) (look 0) .reply
 
 -- the look is accepted and gives address 0, and page 0 was in the cache or not
 abbrev pub looksUp : Bool → Reply
-looksUp h = record { number = 0; emptied = 0; address = 0; hit = h; byte = 0 }
+looksUp h = record { number = 0; emptied = 0; address = 0; hit = h; links = 1; byte = 0 }

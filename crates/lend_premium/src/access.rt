@@ -27,7 +27,15 @@ pub extern "C" fn lend_premium_translate(
     let answer = translate(read_image(image), space, address, rights);
     let board = answer.board;
     let hit = pick(answer.hit, 1, 0);
-    finish(image, board, answer.number, answer.address, hit, out)
+    finish(
+        image,
+        board,
+        answer.number,
+        answer.address,
+        hit,
+        answer.links,
+        out,
+    )
 }
 
 // The memory is only read.
@@ -44,7 +52,7 @@ pub extern "C" fn lend_premium_load(
     let answer = load(read_image(image), memory, space, address);
     let board = answer.board;
     let byte = answer.byte as u32;
-    finish(image, board, answer.number, byte, 0, out)
+    finish(image, board, answer.number, byte, 0, 0, out)
 }
 
 #[no_mangle]
@@ -60,5 +68,5 @@ pub extern "C" fn lend_premium_store(
 {
     let answer = store(read_image(image), memory, space, address, value);
     let board = answer.board;
-    finish(image, board, answer.number, 0, 0, out)
+    finish(image, board, answer.number, 0, 0, 0, out)
 }

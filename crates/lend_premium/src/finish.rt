@@ -19,11 +19,12 @@ pub(crate) fn finish(
     number: u32,
     first: u32,
     second: u32,
+    third: u32,
     out: &mut [u32; 4],
 ) -> u32
-    ensures { λ r. ⌜ left r (now (image .exit)) [] (now (out .exit)) ≡ finishing sizes (tables b) number first second (now (image .entry)) ⌝ }
+    ensures { λ r. ⌜ left r (now (image .exit)) [] (now (out .exit)) ≡ finishing sizes (tables b) number first second third (now (image .entry)) ⌝ }
 {
-    *out = [first, second, 0, 0];
+    *out = [first, second, third, 0];
     if number != 0 {
         return number;
     }

@@ -18,7 +18,7 @@ pub extern "C" fn lend_premium_create(image: &mut [u8], space: u32, out: &mut [u
 {
     let answer = create(read_image(image), space);
     let board = answer.board;
-    finish(image, board, answer.number, answer.emptied, 0, out)
+    finish(image, board, answer.number, answer.emptied, 0, 0, out)
 }
 
 #[no_mangle]
@@ -27,5 +27,5 @@ pub extern "C" fn lend_premium_delete(image: &mut [u8], space: u32, out: &mut [u
 {
     let answer = delete(read_image(image), space);
     let board = answer.board;
-    finish(image, board, answer.number, answer.emptied, 0, out)
+    finish(image, board, answer.number, answer.emptied, 0, 0, out)
 }

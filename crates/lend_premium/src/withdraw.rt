@@ -24,7 +24,7 @@ pub extern "C" fn lend_premium_unmap(
 {
     let answer = unmap(read_image(image), space, page, rights);
     let board = answer.board;
-    finish(image, board, answer.number, answer.emptied, 0, out)
+    finish(image, board, answer.number, answer.emptied, 0, 0, out)
 }
 
 #[no_mangle]
@@ -39,5 +39,5 @@ pub extern "C" fn lend_premium_flush(
 {
     let answer = flush(read_image(image), space, page, rights);
     let board = answer.board;
-    finish(image, board, answer.number, answer.emptied, 0, out)
+    finish(image, board, answer.number, answer.emptied, 0, 0, out)
 }

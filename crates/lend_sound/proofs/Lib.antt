@@ -3,3 +3,4 @@ pub mod Places
 pub mod Slots
 pub mod SoundTest
 pub mod Start
+pub mod Links

@@ -76,7 +76,7 @@ module _ {z : Sizes} {f : Table} where
   line-computed {k} (climbs e a) (suc n) h = rw e (ap (λ (t : List ℕ). k ∷ t) (line-computed a n (le-of-suc-le-suc h)))
 
   -- a line begins with its page
-  pub line-head : {k : ℕ} {l : List ℕ} → Line z f k l → T (member k l)
+  line-head : {k : ℕ} {l : List ℕ} → Line z f k l → T (member k l)
   line-head {k} (ends e) = or-l (eqb k k) false (eqb-refl k)
   line-head {k} (climbs {l = l} e a) = or-l (eqb k k) (member k l) (eqb-refl k)
 
@@ -86,7 +86,7 @@ module _ {z : Sizes} {f : Table} where
   line-some (climbs e a) = omega arith
 
   -- where every parent is held, every page on a held page's line is
-  pub line-all-held : ((k q : ℕ) → parent z f k ≡ some q → T (held (f q))) → {k : ℕ} {l : List ℕ} → Line z f k l → T (held (f k)) → (q : ℕ) → T (member q l) → T (held (f q))
+  line-all-held : ((k q : ℕ) → parent z f k ≡ some q → T (held (f q))) → {k : ℕ} {l : List ℕ} → Line z f k l → T (held (f k)) → (q : ℕ) → T (member q l) → T (held (f q))
   line-all-held up {k} (ends e) h q m = go (or-cases (eqb k q) false m)
     where
       go : T (eqb k q) ⊎ ⊥ → T (held (f q))
@@ -107,6 +107,39 @@ module _ {z : Sizes} {f : Table} where
   frame-fuel (climbs e a) (suc m) zero h g = absurd (not-suc-le-zero g)
   frame-fuel {k} (climbs {q = q} e a) (suc m) (suc n) h g =
       frame-climbs z f k q e m ∙ frame-fuel a m n (le-of-suc-le-suc h) (le-of-suc-le-suc g) ∙ sym (frame-climbs z f k q e n)
+
+-- ── the same links ───────────────────────────────────────────────────────
+-- Two tables have the same links on some pages, with which their parents stay: what stands behind such a page is the same in both.
+module _ (z : Sizes) (f g : Table) (Stays : ℕ → Type 0) (same : (k : ℕ) → Stays k → g k .link ≡ f k .link)
+    (up : (k s p : ℕ) → f k .link ≡ Page s p → Stays k → Stays (key z s p)) where
+  -- its line
+  pub is-line-same : {k : ℕ} {l : List ℕ} → Line z f k l → Stays k → Line z g k l
+  is-line-same {k} (ends e) h = ends {k = k} (rw (same k h) e)
+  is-line-same {k} (climbs {q = q} e a) h =
+      let r = parent-link z f k q e in
+      climbs {k = k} {q = q} (rw (same k h) e) (is-line-same a (subst Stays (r .3) (up k (r .0) (r .1) (r .2) h)))
+
+  -- its line as it is computed
+  pub line-same : (n k : ℕ) → Stays k → line z g n k ≡ line z f n k
+  unfolding line
+  line-same zero k h = refl
+  line-same (suc n) k h = go (λ q. line-same n q) (f k .link) refl
+    where
+      go : ((q : ℕ) → Stays q → line z g n q ≡ line z f n q) → (l : Link) → f k .link ≡ l → line z g (suc n) k ≡ line z f (suc n) k
+      go ih Nothing e = rw (same k h, e)
+      go ih (Frame i) e = rw (same k h, e)
+      go ih (Page s p) e = rw (same k h, e) (ap (λ (l : List ℕ). k ∷ l) (ih (key z s p) (up k s p e h)))
+
+  -- and its frame
+  pub frame-same : (n k : ℕ) → Stays k → frame z g n k ≡ frame z f n k
+  unfolding frame
+  frame-same zero k h = refl
+  frame-same (suc n) k h = go (λ q. frame-same n q) (f k .link) refl
+    where
+      go : ((q : ℕ) → Stays q → frame z g n q ≡ frame z f n q) → (l : Link) → f k .link ≡ l → frame z g (suc n) k ≡ frame z f (suc n) k
+      go ih Nothing e = rw (same k h, e)
+      go ih (Frame i) e = rw (same k h, e)
+      go ih (Page s p) e = rw (same k h, e) (ih (key z s p) (up k s p e h))
 
 -- ── a computed line that reaches the pool is a line ──────────────────────
 module _ (z : Sizes) (f : Table) (tops : (k : ℕ) → T (inPool z k) → parent z f k ≡ none) where
@@ -267,10 +300,3 @@ module _ (z : Sizes) (live : List Bool) (f : Table) (len : length live ≡ z .sp
   frame-step k s p e =
       frame-fuel (the-line k) (z .spaces) (suc (z .spaces)) (line-fits k) (omega (arith, line-fits k))
       ∙ frame-climbs z f k (key z s p) (link-parent z f k s p e) (z .spaces)
-
-  -- a page of space 0 has the frame of its own number
-  pub frame-pool : (k : ℕ) → k < z .pages → frameOf z f k ≡ k
-  unfolding frame
-  frame-pool k h =
-      let a : Line z f k (k ∷ []) = ends (pool-top k h) in
-      frame-fuel a (z .spaces) 1 spaces-some (le-of-eq refl) ∙ rw (sound .pool k h)

@@ -53,13 +53,13 @@ module _ (z : Sizes) (live : List Bool) (f : Table) (ok : (k : ℕ) → k < slot
       }
 
   -- a page with a parent is outside space 0
-  pub slot-out : (k s p : ℕ) → f k .link ≡ Page s p → T (inPool z k) → ⊥
+  slot-out : (k s p : ℕ) → f k .link ≡ Page s p → T (inPool z k) → ⊥
   slot-out k s p e h =
       let o : T (linkTest z live f k (f k .rights) (Page s p)) = of-held k (Page s p) e (rw e tt) in
       T-not (inPool z k) (search and-l depth 12) h
 
   -- a page with a parent is in a live space
-  pub slot-live : (k s p : ℕ) → f k .link ≡ Page s p → T (alive live (spaceOf z k))
+  slot-live : (k s p : ℕ) → f k .link ≡ Page s p → T (alive live (spaceOf z k))
   slot-live k s p e =
       let o : T (linkTest z live f k (f k .rights) (Page s p)) = of-held k (Page s p) e (rw e tt) in
       search (and-l, and-r) depth 12
@@ -78,10 +78,6 @@ module _ (z : Sizes) (live : List Bool) (f : Table) (ok : (k : ℕ) → k < slot
       go Nothing e = rw e
       go (Frame i) e = rw e
       go (Page s p) e = absurd (slot-out k s p e h)
-
-  -- a parent is held
-  pub slot-parent : (k q : ℕ) → parent z f k ≡ some q → T (held (f q))
-  slot-parent k q e = let r = parent-link z f k q e in rw (r .3) at (slot-lent k (r .0) (r .1) (r .2) .parent-held)
 
   -- page k of space 0 holds frame k with every right
   pub slot-pool : 1 ≤ z .spaces → (k : ℕ) → k < z .pages → f k ≡ frameSlot k

@@ -32,7 +32,7 @@ use Rattle.lend_sound.proofs.Slots.{held-in, slot-top, slot-frame, slot
 -- ── from the test: the pages ─────────────────────────────────────────────
 module _ (z : Sizes) (live : List Bool) (f : Table) (len : length live ≡ z .spaces) (past : (k : ℕ) → slotCount z ≤ k → f k ≡ emptySlot) where
   -- the test of pages shows the bullets on spaces and pages
-  pub pages-of-test : T (pagesTest z live f) → SoundPages z live f
+  pages-of-test : T (pagesTest z live f) → SoundPages z live f
   unfolding pagesTest
   pages-of-test h = record {
     pool-live = live0;
@@ -76,7 +76,7 @@ namedFirst z f c i = namesTest z f (placeAt c i) && eqb (placeFor (placeAt c i .
 
 module _ (z : Sizes) (f : Table) (c : List Place) (next : ℕ) where
   -- the test of the cache shows the bullet on the cache
-  pub cache-of-test : T (cacheTest z f c next) → SoundCache z f c next
+  cache-of-test : T (cacheTest z f c next) → SoundCache z f c next
   unfolding cacheTest
   cache-of-test h = record {
     filled-names = λ i t. well i (named i t);
@@ -153,7 +153,7 @@ module _ (z : Sizes) (live : List Bool) (f : Table) (len : length live ≡ z .sp
   out-pool k h = not-T (inPool z k) (λ t. h (ap (λ (s : Slot). s .link) (sound .pool k (ltb→lt k (z .pages) t))))
 
   -- every slot of a sound table passes its test
-  pub slot-test : (k : ℕ) → T (slotTest z live f k)
+  slot-test : (k : ℕ) → T (slotTest z live f k)
   unfolding slotTest
   slot-test k = one (f k .link) refl
     where
@@ -188,7 +188,7 @@ module _ (z : Sizes) (live : List Bool) (f : Table) (len : length live ≡ z .sp
           rw e (search and-i depth 14)
 
   -- the line of every held page of a sound table passes its test
-  pub line-test : (k : ℕ) → T (not (held (f k)) || lineTest z f k)
+  line-test : (k : ℕ) → T (not (held (f k)) || lineTest z f k)
   line-test k = go (held (f k)) refl
     where
       go : (b : Bool) → held (f k) ≡ b → T (not b || lineTest z f k)
@@ -198,7 +198,7 @@ module _ (z : Sizes) (live : List Bool) (f : Table) (len : length live ≡ z .sp
       go false e = tt
 
   -- sound pages pass the test of pages
-  pub test-of-pages : T (pagesTest z live f)
+  test-of-pages : T (pagesTest z live f)
   unfolding pagesTest
   test-of-pages =
       let h0 = sound .pool-live in
@@ -242,7 +242,7 @@ module _ (z : Sizes) (f : Table) (c : List Place) (next : ℕ) (sound : SoundCac
           or-r (isEmptyPlace (placeAt c i)) (namedFirst z f c i) (search and-i depth 14)
 
   -- a sound cache passes the test of the cache
-  pub test-of-cache : T (cacheTest z f c next)
+  test-of-cache : T (cacheTest z f c next)
   unfolding cacheTest
   test-of-cache =
       and-i (every (length c) (λ i. placeTest z f c i (placeAt c i))) (ltb next (z .places))

@@ -1,21 +1,24 @@
 // Made by tools/models.py from crates/entry/src/lookup.rt: change that file.
-// The frame of one page.
+// The frame of one page, and how far it is from the page.
 use crate::lines::Lookup;
 use crate::lines::frame_in;
+use crate::lines::link_in;
 use crate::lines::parent;
 use crate::sizes::SLOTS;
 use crate::sizes::SPACES;
 use lend::Slot;
 ghost use mathlib.Core.Path.{_≡_};
 ghost use Rattle.lend.specs.Slots.{slotAt};
-ghost use Rattle.lend.specs.Line.{frameOf};
+ghost use Rattle.lend.specs.Line.{frameOf, linksOf};
 ghost use Rattle.premium.specs.Sizes.{sizes};
 
-// The frame at the end of the line of page k. One turn visits one page of the line.
+// The frame at the end of the line of page k, and the links to it. One turn visits one page of the line, and goes over one link.
 pub fn lookup(slots: [Slot; SLOTS], k: usize) -> Lookup
-    ensures { λ r. ⌜ r .frame ≡ frameOf sizes (slotAt slots) k ⌝ }
+    ensures frame { λ r. ⌜ r .frame ≡ frameOf sizes (slotAt slots) k ⌝ }
+    ensures links { λ r. ⌜ r .links ≡ linksOf sizes (slotAt slots) k ⌝ }
 {
     let mut at: usize = k;
+    let mut over: u8 = 0;
     let mut left: usize = SPACES;
     while at < SLOTS {
         let slot = slots[at];
@@ -24,10 +27,15 @@ pub fn lookup(slots: [Slot; SLOTS], k: usize) -> Lookup
         if (SLOTS <= up) | (left <= 1) {
             return Lookup {
                 frame: frame_in(link),
+                links: over + link_in(link),
             };
         }
         at = up;
+        over += 1;
         left -= 1;
     }
-    Lookup { frame: 0 }
+    Lookup {
+        frame: 0,
+        links: over,
+    }
 }

@@ -21,13 +21,13 @@ beside b m = record { board = tables b; memory = m }
 
 abbrev pub translated : Translated → Outcome
 translated r = record {
-  reply = record { number = r .number; emptied = 0; address = r .address; hit = r .hit; byte = 0 };
+  reply = record { number = r .number; emptied = 0; address = r .address; hit = r .hit; links = r .links; byte = 0 };
   state = alone (tables (r .board));
 }
 
 abbrev pub loaded : Loaded → List ℕ → Outcome
 loaded r m = record {
-  reply = record { number = r .number; emptied = 0; address = 0; hit = false; byte = r .byte };
+  reply = record { number = r .number; emptied = 0; address = 0; hit = false; links = 0; byte = r .byte };
   state = beside (r .board) m;
 }
 
@@ -37,11 +37,17 @@ stored r m = record { reply = plainReply (r .number) 0; state = beside (r .board
 
 -- a look at a page, with the board's tables
 abbrev pub seen : Seen → Look
-seen r = record { board = tables (r .board); frame = r .frame; hit = r .hit }
+seen r = record { board = tables (r .board); frame = r .frame; links = r .links; hit = r .hit }
 
 -- and back: an answer is all in its outcome
 abbrev pub translatedOf : Outcome → Translated
-translatedOf o = record { board = boardOf (o .state .board); number = o .reply .number; address = o .reply .address; hit = o .reply .hit }
+translatedOf o = record {
+  board = boardOf (o .state .board);
+  number = o .reply .number;
+  address = o .reply .address;
+  hit = o .reply .hit;
+  links = o .reply .links;
+}
 
 pub translatedOf-translated : (r : Translated) → translatedOf (translated r) ≡ r
 translatedOf-translated r = refl
@@ -60,7 +66,7 @@ pub storedOf-stored : (r : Stored) (m : List ℕ) → (storedOf (stored r m) ≡
 storedOf-stored r m = (refl, refl)
 
 abbrev pub seenOf : Look → Seen
-seenOf o = record { board = boardOf (o .board); frame = o .frame; hit = o .hit }
+seenOf o = record { board = boardOf (o .board); frame = o .frame; links = o .links; hit = o .hit }
 
 pub seenOf-seen : (r : Seen) → seenOf (seen r) ≡ r
 seenOf-seen r = refl

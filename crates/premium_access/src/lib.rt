@@ -10,12 +10,14 @@ pub mod translate;
 use model::Board;
 use premium as model;
 
-// What translate answers: the number, the physical address, whether the page was in the cache, and the next board.
+// What translate answers: the number, the physical address, whether the page was in the cache, how many links lead from the page to
+// its frame, and the next board.
 pub struct Translated {
     pub board: Board,
     pub number: u32,
     pub address: u32,
     pub hit: bool,
+    pub links: u32,
 }
 
 // What load answers: the number, the byte, and the next board.

@@ -14,7 +14,7 @@ ghost use Rattle.premium.specs.Sizes.{sizes};
 ghost use Rattle.premium.specs.Board.{tables};
 ghost use Rattle.premium_access.specs.Answers.{translated};
 
-// The physical address, for these rights, and whether the page was in the cache.
+// The physical address, for these rights, whether the page was in the cache, and how far it is from its frame.
 pub fn translate(b: Board, space: u32, address: u32, rights: u32) -> Translated
     ensures { λ r. ⌜ translated r ≡ step sizes (alone (tables b)) (Translate space address rights) ⌝ }
 {
@@ -25,6 +25,7 @@ pub fn translate(b: Board, space: u32, address: u32, rights: u32) -> Translated
             number,
             address: 0,
             hit: false,
+            links: 0,
         };
     }
     let page = (address as usize) / PAGE_BYTES;
@@ -37,5 +38,6 @@ pub fn translate(b: Board, space: u32, address: u32, rights: u32) -> Translated
         number: 0,
         address: at as u32,
         hit,
+        links: seen.links as u32,
     }
 }

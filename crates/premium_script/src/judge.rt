@@ -48,7 +48,7 @@ fn answered(a: Answer) -> Turned
 
 // A translate, which tells its number and where it came to.
 fn looked(a: Translated) -> Turned
-    ensures { λ r. ⌜ turned r ≡ record { said = TranslatedTo (a .number) (a .address) (a .hit); state = alone (tables (a .board)) } ⌝ }
+    ensures { λ r. ⌜ turned r ≡ record { said = TranslatedTo (a .number) (a .address) (a .hit) (a .links); state = alone (tables (a .board)) } ⌝ }
 {
     let board = a.board;
     Turned {
@@ -57,6 +57,7 @@ fn looked(a: Translated) -> Turned
             number: a.number,
             address: a.address,
             hit: a.hit,
+            links: a.links,
         },
     }
 }

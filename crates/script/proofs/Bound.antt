@@ -33,10 +33,10 @@ answer-length : (n a e : ℕ) → length (answerLine n a e) ≤ 63
 unfolding answerLine write.entry
 answer-length n a e = simp length-append (omega (arith, decimal-longest n, decimal-longest a, decimal-longest e))
 
-translation-length : (n a x : ℕ) (hit : Bool) → length (translationLine n a x hit) ≤ 63
+translation-length : (n a x : ℕ) (hit : Bool) (l : ℕ) → length (translationLine n a x hit l) ≤ 76
 unfolding translationLine write.entry
-translation-length n a x hit =
-    simp length-append (omega (arith, decimal-longest n, decimal-longest a, decimal-longest x, decimal-shorter 0 (cond hit 1 0) (bit hit)))
+translation-length n a x hit l =
+    simp length-append (omega (arith, decimal-longest n, decimal-longest a, decimal-longest x, decimal-shorter 0 (cond hit 1 0) (bit hit), decimal-longest l))
   where
     bit : (b : Bool) → cond b 1 0 < 10
     bit true = omega arith
@@ -47,15 +47,15 @@ unfolding malformedLine write.entry
 malformed-length n h = simp length-append (omega (arith, decimal-shorter 4 n (omega arith)))
 
 -- ── a turn ───────────────────────────────────────────────────────────────
-said-length : (n : ℕ) (q : Request) (r : Reply) → n ≤ 99999 → length (saidLine n (saidOf q r)) ≤ 63
+said-length : (n : ℕ) (q : Request) (r : Reply) → n ≤ 99999 → length (saidLine n (saidOf q r)) ≤ 76
 unfolding saidLine
-said-length n (Create s) r h = answer-length n (r .number) (r .emptied)
-said-length n (Delete s) r h = answer-length n (r .number) (r .emptied)
-said-length n (Unmap s p d) r h = answer-length n (r .number) (r .emptied)
-said-length n (Flush s p d) r h = answer-length n (r .number) (r .emptied)
-said-length n (Map f p t a d) r h = answer-length n (r .number) (r .emptied)
-said-length n (Grant f p t a d) r h = answer-length n (r .number) (r .emptied)
-said-length n (Translate s a d) r h = translation-length n (r .number) (r .address) (r .hit)
+said-length n (Create s) r h = omega (arith, answer-length n (r .number) (r .emptied))
+said-length n (Delete s) r h = omega (arith, answer-length n (r .number) (r .emptied))
+said-length n (Unmap s p d) r h = omega (arith, answer-length n (r .number) (r .emptied))
+said-length n (Flush s p d) r h = omega (arith, answer-length n (r .number) (r .emptied))
+said-length n (Map f p t a d) r h = omega (arith, answer-length n (r .number) (r .emptied))
+said-length n (Grant f p t a d) r h = omega (arith, answer-length n (r .number) (r .emptied))
+said-length n (Translate s a d) r h = translation-length n (r .number) (r .address) (r .hit) (r .links)
 said-length n Malformed r h = omega (arith, malformed-length n h)
 
 -- a line that is not malformed is long, and one that is malformed is answered shortly

@@ -27,7 +27,7 @@ byCall z st (some c) = step z st c
 unfoldable pub judged : Sizes → State → Request → Outcome
 judged z st q = byCall z st (callOf q)
 
--- what a request says: translate its address and hit, every other call what it emptied, and a malformed line nothing more
+-- what a request says: translate its address, hit and links, every other call what it emptied, and a malformed line nothing more
 abbrev pub saidOf : Request → Reply → Said
 saidOf (Create space) r = Emptied (r .number) (r .emptied)
 saidOf (Delete space) r = Emptied (r .number) (r .emptied)
@@ -35,7 +35,7 @@ saidOf (Unmap space page rights) r = Emptied (r .number) (r .emptied)
 saidOf (Flush space page rights) r = Emptied (r .number) (r .emptied)
 saidOf (Map from page to at rights) r = Emptied (r .number) (r .emptied)
 saidOf (Grant from page to at rights) r = Emptied (r .number) (r .emptied)
-saidOf (Translate space address rights) r = Translated (r .number) (r .address) (r .hit)
+saidOf (Translate space address rights) r = Translated (r .number) (r .address) (r .hit) (r .links)
 saidOf Malformed r = Garbled
 
 -- what a line says, and the state after it
@@ -58,7 +58,7 @@ unfoldable pub saidLine : ℕ → Said → List ℕ
 saidLine n Silent = []
 saidLine n Garbled = malformedLine n
 saidLine n (Emptied number emptied) = answerLine n number emptied
-saidLine n (Translated number address hit) = translationLine n number address hit
+saidLine n (Translated number address hit links) = translationLine n number address hit links
 
 -- ── the whole ────────────────────────────────────────────────────────────
 -- what lines print from a state on, the first of them being line n, and then the end

@@ -27,6 +27,7 @@ pub enum Said {
         number: u32,
         address: u32,
         hit: bool,
+        links: u32,
     },
 }
 
@@ -48,6 +49,7 @@ pub fn say(out: &mut [u8], at: usize, line: u32, said: Said) -> usize
             number,
             address,
             hit,
-        } => text::write::put_translation(out, at, line, number, address, hit),
+            links,
+        } => text::write::put_translation(out, at, line, number, address, hit, links),
     }
 }

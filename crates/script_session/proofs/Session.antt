@@ -8,12 +8,12 @@ use Rattle.lend.specs.Cache.{placeFor, cached, emptyIn, goesTo, nextAfter, lost
 use Rattle.lend.specs.Calls.{cases, number, boardAfter, memoryAfter, report, step}
 use Rattle.lend.specs.Emptied.{emptied}
 use Rattle.lend.specs.Lending.{mapped}
-use Rattle.lend.specs.Line.{line, frame}
+use Rattle.lend.specs.Line.{line, frame, links}
 use Rattle.lend.specs.Lists.{every, some, count, tabulateFrom}
 use Rattle.lend.specs.Rights.{less, within}
 use Rattle.lend.specs.SoundTest.{slotTest, pagesTest, cacheTest, soundTest}
 use Rattle.lend.specs.Start.{startBoard}
-use Rattle.lend.specs.Translate.{physical, hit, looked}
+use Rattle.lend.specs.Translate.{physical, linksTo, hit, looked}
 use Rattle.lend.specs.Withdraw.{unmapped, flushed}
 use Rattle.text.specs.Ascii.{bytes, newline}
 use Rattle.text.specs.Decimal.{decimalIn, decimal, digitOf, firstDigit, oneMoreDigit, numberAt}
@@ -47,9 +47,9 @@ output =
     "line=2 answer=0 emptied=0"
     ∷ "line=3 answer=0 emptied=0"
     ∷ "line=4 answer=0 emptied=0"
-    ∷ "line=5 answer=0 address=5125 hit=0"
+    ∷ "line=5 answer=0 address=5125 hit=0 links=3"
     ∷ "line=6 answer=0 emptied=0"
-    ∷ "line=7 answer=12 address=0 hit=0"
+    ∷ "line=7 answer=12 address=0 hit=0 links=0"
     ∷ "line=8 answer=13 emptied=0"
     ∷ "live=7"
     ∷ "space=1 page=0 parent=0 at=5 rights=7"
@@ -58,12 +58,12 @@ output =
     ∷ []
 
 pub session : scriptOutput sizes.entry (text input) ≡ text output
-unfolding placeFor cached emptyIn goesTo nextAfter lostRight cases number boardAfter memoryAfter report step emptied mapped line frame every some count tabulateFrom less within slotTest pagesTest cacheTest soundTest startBoard physical hit looked unmapped flushed decimalIn decimal digitOf firstDigit oneMoreDigit numberAt keyAt fieldAt oneField threeFields fiveFields lines createOr deleteOr unmapOr flushOr mapOr grantOr translateOr requestOf isComment entry answerLine translationLine malformedLine liveLine pageLine heldLine judged turn saidLine liveNumber slotLine pagesFrom pagesListed heldOutside listingOf answers outputOf scriptOutput
+unfolding placeFor cached emptyIn goesTo nextAfter lostRight cases number boardAfter memoryAfter report step emptied mapped line frame links every some count tabulateFrom less within slotTest pagesTest cacheTest soundTest startBoard physical hit looked unmapped flushed decimalIn decimal digitOf firstDigit oneMoreDigit numberAt keyAt fieldAt oneField threeFields fiveFields lines createOr deleteOr unmapOr flushOr mapOr grantOr translateOr requestOf isComment entry answerLine translationLine malformedLine liveLine pageLine heldLine judged turn saidLine liveNumber slotLine pagesFrom pagesListed heldOutside listingOf answers outputOf scriptOutput
 session = refl
 
 -- and the same on the premium model
 pub premium-session : scriptOutput sizes.premium (text input) ≡ text output
-unfolding placeFor cached emptyIn goesTo nextAfter lostRight cases number boardAfter memoryAfter report step emptied mapped line frame every some count tabulateFrom less within slotTest pagesTest cacheTest soundTest startBoard physical hit looked unmapped flushed decimalIn decimal digitOf firstDigit oneMoreDigit numberAt keyAt fieldAt oneField threeFields fiveFields lines createOr deleteOr unmapOr flushOr mapOr grantOr translateOr requestOf isComment entry answerLine translationLine malformedLine liveLine pageLine heldLine judged turn saidLine liveNumber slotLine pagesFrom pagesListed heldOutside listingOf answers outputOf scriptOutput
+unfolding placeFor cached emptyIn goesTo nextAfter lostRight cases number boardAfter memoryAfter report step emptied mapped line frame links every some count tabulateFrom less within slotTest pagesTest cacheTest soundTest startBoard physical hit looked unmapped flushed decimalIn decimal digitOf firstDigit oneMoreDigit numberAt keyAt fieldAt oneField threeFields fiveFields lines createOr deleteOr unmapOr flushOr mapOr grantOr translateOr requestOf isComment entry answerLine translationLine malformedLine liveLine pageLine heldLine judged turn saidLine liveNumber slotLine pagesFrom pagesListed heldOutside listingOf answers outputOf scriptOutput
 premium-session = refl
 
 -- ── what else the document says of lines, each on a script of its own ────
@@ -79,7 +79,7 @@ pub record Corners : Type 0 where
   pub other-order : scriptOutput sizes.entry (bytes "op=unmap page=0 space=1 rights=2\n") ≡ bytes "line=1 answer=16\nlive=3\nheld=0\n"
 
 pub corners : Corners
-unfolding placeFor cached emptyIn goesTo nextAfter lostRight cases number boardAfter memoryAfter report step emptied mapped line frame every some count tabulateFrom less within slotTest pagesTest cacheTest soundTest startBoard physical hit looked unmapped flushed decimalIn decimal digitOf firstDigit oneMoreDigit numberAt keyAt fieldAt oneField threeFields fiveFields lines createOr deleteOr unmapOr flushOr mapOr grantOr translateOr requestOf isComment entry answerLine translationLine malformedLine liveLine pageLine heldLine judged turn saidLine liveNumber slotLine pagesFrom pagesListed heldOutside listingOf answers outputOf scriptOutput
+unfolding placeFor cached emptyIn goesTo nextAfter lostRight cases number boardAfter memoryAfter report step emptied mapped line frame links every some count tabulateFrom less within slotTest pagesTest cacheTest soundTest startBoard physical hit looked unmapped flushed decimalIn decimal digitOf firstDigit oneMoreDigit numberAt keyAt fieldAt oneField threeFields fiveFields lines createOr deleteOr unmapOr flushOr mapOr grantOr translateOr requestOf isComment entry answerLine translationLine malformedLine liveLine pageLine heldLine judged turn saidLine liveNumber slotLine pagesFrom pagesListed heldOutside listingOf answers outputOf scriptOutput
 corners = record {
   empty-input = refl;
   empty-line = refl;

@@ -131,12 +131,6 @@ number-read s at n post h e o = go (leb 10 n) (leb 100 n) (leb 1000 n) (leb 1000
     go true true true false p q u v = let i = leb-true 1000 n u in let j = leb-false 10000 n v in rw (four n i (omega arith) post e) stop
     go true true true true p q u v = five n (leb-true 10000 n v) h post e
 
--- a number that a writer wrote is read back, where no digit stood after it
-pub number-again : {s : List ℕ} {at : ℕ} (n : ℕ) {s′ : List ℕ} {r : ℕ} → Wrote s at (decimal n) s′ r → n ≤ mostRead
-    → at + length (decimal n) ≤ lastPosition → at + length (decimal n) ≤ length s → Stop (drop (at + length (decimal n)) s) → numberAt s′ at ≡ numeral n r
-number-again {s} {at} n {s′} w h l room o =
-    number-read s′ at n (drop (at + length (decimal n)) s) h (wrote-there w l room) o ∙ ap (numeral n) (sym (wrote-next w l))
-
 -- ── read, then written ───────────────────────────────────────────────────
 -- the number x stands at `at`, as it is written, and ends where x says
 pub record Stands (s : List ℕ) (at : ℕ) (x : Numeral) : Type 0 where

@@ -1,4 +1,4 @@
-//! The model of the board: 01 read straight, with no thought for speed.
+//! The model of the board: 01 as 02 amends it, read straight, with no thought for speed.
 
 use crate::calls::{Call, Lending, Refusal, Reply, Withdrawal, ALL_RIGHTS, READ, WRITE};
 use crate::sizes::{Sizes, PAGE_BYTES};
@@ -111,6 +111,8 @@ pub struct Deal {
 pub struct Translation {
     pub address: usize,
     pub hit: bool,
+    /// How many links lead from the page to its frame (M-101).
+    pub links: usize,
 }
 
 #[derive(Clone, Debug, PartialEq, Eq)]
@@ -209,6 +211,11 @@ impl Board {
             Link::Frame(frame) => Some(frame),
             _ => None,
         }
+    }
+
+    /// How many links lead from a held page to its frame, the one to the frame included: each page of its line has one.
+    pub fn links(&self, page: Spot) -> usize {
+        self.line(page).filter(|&at| self.held(at)).count()
     }
 }
 
@@ -484,11 +491,12 @@ impl Board {
         Ok(self.count_emptied(|board| board.link_step(&deal)))
     }
 
+    /// The giver's page is flushed of all rights, whichever were granted (M-103).
     pub fn grant(&mut self, asked: &Lending) -> Result<u32, Refusal> {
         let deal = self.judge_lending(asked, Way::Grant)?;
         Ok(self.count_emptied(|board| {
             board.link_step(&deal);
-            board.flush_step(deal.giver, deal.rights);
+            board.flush_step(deal.giver, ALL_RIGHTS);
         }))
     }
 
@@ -500,7 +508,8 @@ impl Board {
             let rights = self.slot(page).rights;
             self.cache.insert(Place { space: page.space, page: page.page, frame, rights });
         }
-        Ok(Translation { address: PAGE_BYTES * frame + address as usize % PAGE_BYTES, hit })
+        let links = self.links(page);
+        Ok(Translation { address: PAGE_BYTES * frame + address as usize % PAGE_BYTES, hit, links })
     }
 
     pub fn load(&mut self, memory: &[u8], space: u32, address: u32) -> Result<u8, Refusal> {
@@ -532,9 +541,7 @@ impl Board {
             Call::Flush(asked) => self.flush(&asked).map(emptied),
             Call::Map(asked) => self.map(&asked).map(emptied),
             Call::Grant(asked) => self.grant(&asked).map(emptied),
-            Call::Translate { space, address, rights } => {
-                self.translate(space, address, rights).map(|found| Reply::done(found.address as u32, found.hit as u32))
-            }
+            Call::Translate { space, address, rights } => self.translate(space, address, rights).map(Reply::from),
             Call::Load { space, address } => self.load(memory, space, address).map(|byte| Reply::done(byte as u32, 0)),
             Call::Store { space, address, value } => self.store(memory, space, address, value).map(|()| Reply::done(0, 0)),
             Call::UnmapRange(asked) => Ok(self.unmap_range(asked.space, asked.range, asked.rights).into()),
@@ -550,6 +557,12 @@ impl Board {
 
 fn emptied(count: u32) -> Reply {
     Reply::done(count, 0)
+}
+
+impl From<Translation> for Reply {
+    fn from(found: Translation) -> Reply {
+        Reply::translated(found.address as u32, found.hit as u32, found.links as u32)
+    }
 }
 
 #[cfg(test)]
@@ -707,9 +720,25 @@ pub mod tests {
     fn example_10_grant_of_a_part_of_the_rights() {
         for sizes in Sizes::MODELS {
             let mut board = board_k(sizes);
-            assert_eq!(board.grant(&lending((2, 3), (4, 0), 2)), Ok(1));
-            let mut expected = k_with(sizes, &[(2, 3, 4), (3, 1, 0)]);
+            assert_eq!(board.grant(&lending((2, 3), (4, 0), 2)), Ok(2));
+            let mut expected = k_with(sizes, &[(2, 3, 0), (3, 1, 0)]);
             link(&mut expected, (4, 0), (1, 0), 2);
+            assert_eq!(board, expected);
+        }
+    }
+
+    /// Also a page below the giver with none of the granted rights goes, and each entry with it.
+    #[test]
+    fn a_grant_of_a_part_takes_every_right_from_giver_and_below() {
+        for sizes in Sizes::MODELS {
+            let mut board = board_k(sizes);
+            for (space, page, right) in [(1, 0, 4), (2, 3, 4), (3, 1, 2)] {
+                board.translate(space, 1024 * page, right).unwrap();
+            }
+            assert_eq!(board.grant(&lending((2, 3), (4, 0), 4)), Ok(2), "(3,1) has only 2");
+            let mut expected = k_with(sizes, &[(2, 3, 0), (3, 1, 0)]);
+            link(&mut expected, (4, 0), (1, 0), 4);
+            expected.cache.places[0] = Place { space: 1, page: 0, frame: 5, rights: 7 };
             assert_eq!(board, expected);
         }
     }
@@ -730,8 +759,8 @@ pub mod tests {
         for (sizes, last, page) in [(Sizes::ENTRY, 32767, 31), (Sizes::PREMIUM, 65535, 63)] {
             let mut board = board_k(sizes);
             let address = last as usize;
-            assert_eq!(board.translate(0, last, 4), Ok(Translation { address, hit: false }));
-            assert_eq!(board.translate(0, last, 4), Ok(Translation { address, hit: true }));
+            assert_eq!(board.translate(0, last, 4), Ok(Translation { address, hit: false, links: 1 }));
+            assert_eq!(board.translate(0, last, 4), Ok(Translation { address, hit: true, links: 1 }));
             assert_eq!(board.translate(0, last + 1, 4), Err(Refusal::Page));
             let mut expected = board_k(sizes);
             expected.cache.places[0] = Place { space: 0, page, frame: page, rights: 7 };
@@ -742,11 +771,14 @@ pub mod tests {
     #[test]
     fn a_taker_below_the_giver_keeps_what_it_was_given() {
         for sizes in Sizes::MODELS {
-            let mut board = board_k(sizes);
-            assert_eq!(board.grant(&lending((2, 3), (3, 1), 6)), Ok(1));
-            assert_eq!(board.slot(spot(3, 1)), Slot { link: Link::Page(spot(1, 0)), rights: 6 });
-            assert!(!board.held(spot(2, 3)));
-            assert!(board.sound());
+            for rights in [6, 4, 2] {
+                let mut board = board_k(sizes);
+                assert_eq!(board.grant(&lending((2, 3), (3, 1), rights)), Ok(1));
+                let mut expected = k_with(sizes, &[(2, 3, 0)]);
+                link(&mut expected, (3, 1), (1, 0), rights as u8);
+                assert_eq!(board, expected);
+                assert!(board.sound());
+            }
         }
     }
 
@@ -847,7 +879,25 @@ pub mod tests {
             }
             assert_eq!(board.line(spot(spaces as usize - 1, 4)).count(), spaces as usize);
             assert!(board.sound());
-            assert_eq!(board.translate(spaces - 1, 4096, 7), Ok(Translation { address: 4096, hit: false }));
+            let found = Translation { address: 4096, hit: false, links: spaces as usize };
+            assert_eq!(board.translate(spaces - 1, 4096, 7), Ok(found));
+        }
+    }
+
+    /// Board K: (0,5) has the link to its frame alone, (1,0) one more, and so on; a hit says the same as a miss.
+    #[test]
+    fn the_links_of_k() {
+        for sizes in Sizes::MODELS {
+            let mut board = board_k(sizes);
+            for (space, page, links) in [(0, 5, 1), (1, 0, 2), (2, 3, 3), (3, 1, 4), (2, 4, 2)] {
+                let rights = rights(&board, space, page) as u32;
+                let answers = [0, 1].map(|_| board.translate(space as u32, 1024 * page as u32, rights).unwrap());
+                assert_eq!(answers.map(|found| (found.hit, found.links)), [(false, links), (true, links)]);
+            }
+            let refused = Call::Translate { space: 3, address: 1024, rights: 4 };
+            assert_eq!(board.play(&mut [], &refused), Reply::bare(12));
+            let mut memory = vec![0; sizes.memory()];
+            assert_eq!(board.play(&mut memory, &Call::Load { space: 2, address: 3 * 1024 }), Reply::done(0, 0));
         }
     }
 

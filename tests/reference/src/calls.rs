@@ -270,6 +270,11 @@ impl Reply {
         Reply { number: 0, out: [first, second, 0, 0], strayed: false }
     }
 
+    /// Of an accepted translation: the physical address, 1 for a hit, and the number of links to the frame.
+    pub fn translated(address: u32, hit: u32, links: u32) -> Reply {
+        Reply { number: 0, out: [address, hit, links, 0], strayed: false }
+    }
+
     /// Of a call over a range: the number, the pages done, the offset of the first refused one, and the pages emptied.
     pub fn range(number: u32, done: u32, offset: u32, emptied: u32) -> Reply {
         Reply { number, out: [done, offset, emptied, 0], strayed: false }

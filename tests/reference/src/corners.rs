@@ -1,6 +1,8 @@
-//! The corners of a model, which every run has to reach: the ends of each limit, on both sides, and the largest ranges.
+//! The corners of a model, which every run has to reach: the ends of each limit, on both sides, the largest ranges, and grants of
+//! fewer rights than the giver holds.
 
-use crate::calls::{Call, Refusal, Reply};
+use crate::board::{spot, Board};
+use crate::calls::{Call, Lending, Refusal, Reply};
 use crate::sizes::{Sizes, PAGE_BYTES};
 
 /// Something at a limit of the model. `Upper` is the upper half: of the premium model, what the entry model has not.
@@ -22,6 +24,14 @@ pub enum Corner {
     NoPageRefused,
     /// The first refused page is in the upper half of a space's pages.
     LateRefusal,
+    /// A grant of fewer rights than the giver holds.
+    GrantOfPart,
+    /// Such a grant, with a page below the giver, other than the taker, that has a right which was not granted.
+    GrantOfPartOver,
+    /// Such a grant, with the taker below the giver before the call.
+    GrantOfPartToBelow,
+    /// A grant over a range, every page of which was done, of fewer rights than one of the givers holds.
+    RangeGrantOfPart,
 }
 
 impl Corner {
@@ -47,6 +57,35 @@ impl Corner {
         Corner::NoPageRefused,
         Corner::LateRefusal,
     ];
+
+    /// The corners of grants of a part of the rights.
+    pub const OF_GRANTS: [Corner; 3] = [Corner::GrantOfPart, Corner::GrantOfPartOver, Corner::GrantOfPartToBelow];
+
+    /// The corners that an accepted call on this board has reached, where it is a grant of a part of the rights.
+    pub fn of_grant(before: &Board, call: &Call) -> Vec<Corner> {
+        match call {
+            Call::Grant(asked) => Corner::of_one_grant(before, asked),
+            Call::GrantRange(asked) => {
+                let given = before.range_pages(asked.given).expect("the call was accepted");
+                let mut givers = (given.first..given.first + given.count).map(|page| spot(asked.from as usize, page as usize));
+                let part = givers.any(|giver| before.slot(giver).rights & !(asked.rights as u8) != 0);
+                part.then_some(Corner::RangeGrantOfPart).into_iter().collect()
+            }
+            _ => vec![],
+        }
+    }
+
+    /// The corners of an accepted grant: which pages would keep a right if only those granted were taken.
+    fn of_one_grant(before: &Board, asked: &Lending) -> Vec<Corner> {
+        let giver = spot(asked.from as usize, asked.page as usize);
+        let taker = spot(asked.to as usize, asked.at as usize);
+        let would_keep = |page| before.slot(page).rights & !(asked.rights as u8) != 0;
+        let part = would_keep(giver);
+        let over = part && before.pages_below(giver).any(|page| page != taker && would_keep(page));
+        let to_below = part && before.is_below(taker, giver);
+        let reached = Corner::OF_GRANTS.into_iter().zip([part, over, to_below]);
+        reached.filter(|(_, is_reached)| *is_reached).map(|(corner, _)| corner).collect()
+    }
 
     /// The corners that a call and its answer have reached.
     pub fn reached(sizes: Sizes, call: &Call, reply: &Reply) -> Vec<Corner> {
@@ -105,10 +144,37 @@ impl Corner {
 #[cfg(test)]
 mod tests {
     use super::*;
-    use crate::calls::{Range, RangeWithdrawal, Withdrawal};
+    use crate::board::tests::board_k;
+    use crate::calls::{Range, RangeLending, RangeWithdrawal, Withdrawal};
 
     fn reached(sizes: Sizes, call: Call, reply: Reply) -> Vec<Corner> {
         Corner::reached(sizes, &call, &reply)
+    }
+
+    #[test]
+    fn grants_of_a_part() {
+        let of_grant = |page, to, at, rights| {
+            let call = Call::Grant(Lending { from: 2, page, to, at, rights });
+            Corner::of_grant(&board_k(Sizes::ENTRY), &call)
+        };
+        assert_eq!(of_grant(3, 4, 0, 6), []);
+        assert_eq!(of_grant(3, 4, 0, 4), [Corner::GrantOfPart, Corner::GrantOfPartOver]);
+        assert_eq!(of_grant(3, 4, 0, 2), [Corner::GrantOfPart], "(3,1) below it has 2 alone");
+        assert_eq!(of_grant(3, 3, 1, 4), [Corner::GrantOfPart, Corner::GrantOfPartToBelow]);
+        assert_eq!(of_grant(4, 3, 1, 4), [Corner::GrantOfPart], "(3,1) is not below (2,4)");
+        assert_eq!(Corner::of_grant(&board_k(Sizes::ENTRY), &Call::Delete { space: 2 }), []);
+    }
+
+    #[test]
+    fn grants_of_a_part_over_a_range() {
+        let of_grant = |base, rights| {
+            let given = Range { base, size: 11 };
+            let call = Call::GrantRange(RangeLending { from: 2, given, to: 4, taken: given, rights });
+            Corner::of_grant(&board_k(Sizes::PREMIUM), &call)
+        };
+        assert_eq!(of_grant(3, 4), [Corner::RangeGrantOfPart]);
+        assert_eq!(of_grant(3, 6), []);
+        assert_eq!(of_grant(4, 6), [Corner::RangeGrantOfPart]);
     }
 
     #[test]

@@ -131,7 +131,7 @@ impl<'a> Both<'a> {
         Both { entry, premium, tally: Tally::new(ENTRY), hits: Hits::default(), passed: 0 }
     }
 
-    /// The answers and hits that should have occurred and did not.
+    /// The answers, lines and hits that should have occurred and did not.
     pub fn missing(&self) -> Vec<String> {
         [self.tally.missing_of_one_page(), self.hits.missing()].concat()
     }
@@ -197,7 +197,7 @@ impl<'a> Both<'a> {
     fn count(&mut self, before: &Pair, after: &Pair, call: &Call, reply: &Reply) {
         let (entry, premium) = before.boards().expect("the boards of a pair");
         let (board, _) = after.boards().expect("the boards of a pair");
-        self.tally.record(call, reply, entry.cache.next, &board);
+        self.tally.record(call, reply, &entry, &board);
         if let (Some(page), 0) = (translated(call), reply.number) {
             self.hits.count(before.replaced, has(&entry.cache, page), has(&premium.cache, page));
         }
@@ -314,7 +314,8 @@ fn differences(before: &Pair, after: &Pair, call: &Call, replies: &[Reply; 2]) -
     found
 }
 
-/// The number and every field must be the same, but for `hit` once an entry was replaced; `hit` must be what each cache says.
+/// The number and every field, links among them, must be the same, but for `hit` once an entry was replaced; `hit` must be what
+/// each cache says.
 fn replies_differ(before: &Pair, call: &Call, replies: &[Reply; 2]) -> Vec<String> {
     let mut found = Vec::new();
     let says_hit = call.kind() == Kind::Translate && replies.iter().all(|reply| reply.number == 0);
@@ -398,9 +399,10 @@ mod tests {
     }
 
     /// The faults that show on sound boards, with memory of the right length, before an entry is replaced.
-    const SEEN_HERE: [Fault; 18] = [
+    const SEEN_HERE: [Fault; 23] = [
         Fault::GrantSparesBelow,
-        Fault::GrantTakesAll,
+        Fault::GrantTakesGranted,
+        Fault::GrantTakesGrantedBelow,
         Fault::GrantLinksToGiver,
         Fault::GrantCutsOldLines,
         Fault::DirectChildrenOnly,
@@ -417,6 +419,10 @@ mod tests {
         Fault::StoreUntranslated,
         Fault::RefusedTranslateCaches,
         Fault::OutLeftAlone,
+        Fault::LinksWithoutFrame,
+        Fault::HitWithoutLinks,
+        Fault::RefusalSaysLinks,
+        Fault::LoadSaysLinks,
     ];
 
     /// Whether the last of these pages of space 0, read one after the other, is a hit on entry and on premium.

@@ -177,10 +177,10 @@ impl<'a> Driver<'a> {
     }
 
     fn count(&mut self, before: &World, call: &Call, reply: &Reply, after: &World) {
-        match image::decode(self.sizes, &after.image) {
-            Some(board) if reply.number == 0 && call.kind() != Kind::Sound => {
-                let next = *before.image.last().expect("an image of the right length") as usize;
-                self.tally.record(call, reply, next, &board);
+        let decode = |world: &World| image::decode(self.sizes, &world.image);
+        match (decode(before), decode(after)) {
+            (Some(before), Some(after)) if reply.number == 0 && call.kind() != Kind::Sound => {
+                self.tally.record(call, reply, &before, &after);
             }
             _ => self.tally.count(call, reply),
         }

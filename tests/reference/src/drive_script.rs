@@ -91,9 +91,9 @@ fn tallied_answer(sizes: Sizes, input: &[u8], tally: &mut Tally) -> Vec<u8> {
         sizes,
         input,
         |board, call| {
-            let next = board.cache.next;
+            let before = board.clone();
             let reply = board.play(&mut [], call);
-            tally.record(call, &reply, next, board);
+            tally.record(call, &reply, &before, board);
             reply
         },
         |_| malformed += 1,
@@ -369,7 +369,7 @@ mod tests {
         let report = report(Sizes::ENTRY, &mut program, 5, &difference.unwrap());
         assert!(report.contains("no line can be left out"), "{report}");
         assert!(report.contains("answer=14") && report.contains("answer=15"), "{report}");
-        assert!(report.lines().count() < 20, "{report}");
+        assert!(report.lines().count() < 30, "{report}");
     }
 
     #[test]

@@ -1,7 +1,7 @@
 //! Premium models in which one limit of the entry model was left. The random runs have to tell each of them apart.
 
 use crate::board::Board;
-use crate::calls::{Call, Range, Reply};
+use crate::calls::{Call, Kind, Range, Reply};
 use crate::drive_library::Subject;
 use crate::image;
 use crate::sizes::Sizes;
@@ -31,10 +31,12 @@ pub enum Left {
     Offset,
     /// load and store take 32,768 bytes of memory.
     Memory,
+    /// A translation says that it followed 8 links at most.
+    Links,
 }
 
 impl Left {
-    pub const ALL: [Left; 11] = [
+    pub const ALL: [Left; 12] = [
         Left::Spaces,
         Left::Pages,
         Left::Addresses,
@@ -46,6 +48,7 @@ impl Left {
         Left::Complete,
         Left::Offset,
         Left::Memory,
+        Left::Links,
     ];
 }
 
@@ -84,6 +87,12 @@ fn play(left: Left, board: &mut Board, memory: &mut [u8], call: &Call) -> Reply 
             reply
         }
         Left::Memory => refused_if(call.kind().takes_memory() && memory.len() != 32_768, 2, board, memory, call),
+        Left::Links => {
+            let mut reply = board.play(memory, call);
+            let most = if call.kind() == Kind::Translate { 8 } else { u32::MAX };
+            reply.out[2] = reply.out[2].min(most);
+            reply
+        }
         Left::Lines => board.play(memory, call),
     }
 }

@@ -112,7 +112,7 @@ fn answer_line(number: usize, call: &Call, reply: Reply) -> String {
     let Reply { number: answer, out, .. } = reply;
     match call {
         Call::Translate { .. } => {
-            format!("line={number} answer={answer} address={} hit={}\n", out[0], out[1])
+            format!("line={number} answer={answer} address={} hit={} links={}\n", out[0], out[1], out[2])
         }
         _ => format!("line={number} answer={answer} emptied={}\n", out[0]),
     }
@@ -181,9 +181,9 @@ op=map from=2 page=3 to=1 at=9 rights=4
 line=2 answer=0 emptied=0
 line=3 answer=0 emptied=0
 line=4 answer=0 emptied=0
-line=5 answer=0 address=5125 hit=0
+line=5 answer=0 address=5125 hit=0 links=3
 line=6 answer=0 emptied=0
-line=7 answer=12 address=0 hit=0
+line=7 answer=12 address=0 hit=0 links=0
 line=8 answer=13 emptied=0
 space=1 page=0 parent=0 at=5 rights=7
 space=2 page=3 parent=1 at=0 rights=4
@@ -201,9 +201,9 @@ held=2
         let input =
             b"op=create space=8\nop=map from=0 page=32 to=1 at=63 rights=4\nop=translate space=1 address=65535 rights=4\n";
         let answers = |sizes| String::from_utf8(answer(sizes, input)).unwrap();
-        let refused = "line=1 answer=3 emptied=0\nline=2 answer=5 emptied=0\nline=3 answer=5 address=0 hit=0\nheld=0\n";
+        let refused = "line=1 answer=3 emptied=0\nline=2 answer=5 emptied=0\nline=3 answer=5 address=0 hit=0 links=0\nheld=0\n";
         assert_eq!(answers(Sizes::ENTRY), refused);
-        let done = "line=1 answer=0 emptied=0\nline=2 answer=0 emptied=0\nline=3 answer=0 address=33791 hit=0\n\
+        let done = "line=1 answer=0 emptied=0\nline=2 answer=0 emptied=0\nline=3 answer=0 address=33791 hit=0 links=2\n\
             space=1 page=63 parent=0 at=32 rights=4\nheld=1\n";
         assert_eq!(answers(Sizes::PREMIUM), done);
     }

@@ -208,6 +208,13 @@ fn some_cached(random: &mut Random, board: &Board) -> Option<Spot> {
     random.pick_any(&cached).map(|place| spot(place.space, place.page))
 }
 
+/// The page in the cache with the longest line of at most so many pages, if there is one.
+fn deepest_cached(board: &Board, longest: usize) -> Option<Spot> {
+    let cached = board.cache.places.iter().filter(|place| place.filled()).map(|place| spot(place.space, place.page));
+    let length = |page: &Spot| board.line(*page).count();
+    cached.filter(|page| length(page) <= longest).max_by_key(length)
+}
+
 /// Makes a link again that is there already, mostly of a page in the cache.
 fn again(random: &mut Random, board: &Board) -> Call {
     let cached = some_cached(random, board).filter(|page| page.space != 0);
@@ -222,7 +229,8 @@ pub fn read(random: &mut Random, board: &Board, kinds: &[Kind]) -> Call {
     let page = match (some_cached(random, board), random.below(100)) {
         (_, 0..=4) => spot(0, board.sizes.pages - 1),
         (_, 5..=19) => deepest(board, random.between(2, board.sizes.spaces)),
-        (Some(page), 20..=59) => page,
+        (Some(page), 20..=34) => deepest_cached(board, random.between(2, board.sizes.spaces)).unwrap_or(page),
+        (Some(page), 35..=59) => page,
         _ => deepest_of(random, board, 3),
     };
     let any = random.below(PAGE_BYTES);
@@ -784,14 +792,14 @@ fn limits(sizes: Sizes) -> String {
     text
 }
 
-/// A line through every space, each of its pages translated; then so many pages of the pool that every place of the cache is
-/// filled and replaced, and the line taken back from its top.
+/// A line through every space, each of its pages translated, as a miss and as a hit; then so many pages of the pool that every
+/// place of the cache is filled and replaced, and the line taken back from its top.
 fn longest_line(sizes: Sizes) -> String {
     let mut text: String = (2..sizes.spaces).map(|space| format!("op=create space={space}\n")).collect();
     for space in 1..sizes.spaces {
         text += &format!("op=map from={} page={} to={space} at={space} rights=7\n", space - 1, space - 1);
     }
-    for page in 0..sizes.spaces {
+    for page in (0..sizes.spaces).chain(0..sizes.spaces) {
         text += &format!("op=translate space={page} address={} rights=4\n", PAGE_BYTES * page + page);
     }
     for page in 1..=2 * sizes.places {

@@ -1,9 +1,9 @@
 //! What a run has reached: the count of every answer, and how far it went into the corners.
 
-use crate::board::{spot, Board};
+use crate::board::Board;
 use crate::calls::{Call, Kind, Reply, MALFORMED, NUMBERS};
 use crate::corners::Corner;
-use crate::sizes::{Sizes, PAGE_BYTES};
+use crate::sizes::Sizes;
 use std::collections::BTreeMap;
 use std::fmt::Write;
 use std::time::Instant;
@@ -28,10 +28,9 @@ pub struct Tally {
     malformed: u64,
     deepest_line: usize,
     most_held: usize,
-    hits: u64,
     corners: BTreeMap<Corner, u64>,
-    /// Accepted translations, by the number of pages of the line (1 at index 0).
-    lines: Vec<u64>,
+    /// Accepted translations that were misses, and those that were hits, by the number of links (1 at index 0).
+    lines: [Vec<u64>; 2],
     /// Replaced entries, by place.
     replaced: Vec<u64>,
     named: BTreeMap<String, u64>,
@@ -45,9 +44,8 @@ impl Tally {
             malformed: 0,
             deepest_line: 0,
             most_held: 0,
-            hits: 0,
             corners: BTreeMap::new(),
-            lines: vec![0; sizes.spaces],
+            lines: [0, 1].map(|_| vec![0; sizes.spaces]),
             replaced: vec![0; sizes.places],
             named: BTreeMap::new(),
         }
@@ -58,7 +56,11 @@ impl Tally {
     /// Counts the answer to a call.
     pub fn count(&mut self, call: &Call, reply: &Reply) {
         self.answers[call.kind() as usize][reply.number as usize] += 1;
-        for corner in Corner::reached(self.sizes, call, reply) {
+        self.count_corners(Corner::reached(self.sizes, call, reply));
+    }
+
+    fn count_corners(&mut self, reached: Vec<Corner>) {
+        for corner in reached {
             *self.corners.entry(corner).or_default() += 1;
         }
     }
@@ -72,25 +74,24 @@ impl Tally {
         *self.named.entry(name).or_default() += 1;
     }
 
-    /// Counts the answer to a call and looks at the board after it. `next` is the next place before the call.
-    pub fn record(&mut self, call: &Call, reply: &Reply, next: usize, board: &Board) {
+    /// Counts the answer to a call and looks at the boards before and after it.
+    pub fn record(&mut self, call: &Call, reply: &Reply, before: &Board, board: &Board) {
         self.count(call, reply);
         if reply.number != 0 {
             return;
         }
+        self.count_corners(Corner::of_grant(before, call));
         match call {
             Call::Map(_) | Call::Grant(_) => {
                 let deepest = board.lent_pages().map(|page| board.line(page).count()).max();
                 self.deepest_line = self.deepest_line.max(deepest.unwrap_or(0));
                 self.most_held = self.most_held.max(board.lent_pages().count());
             }
-            Call::Translate { .. } => self.hits += reply.out[1] as u64,
+            Call::Translate { .. } => self.lines[reply.out[1] as usize][reply.out[2] as usize - 1] += 1,
             _ => (),
         }
-        if let Some(address) = call.address() {
-            let page = spot(call.spaces()[0] as usize, address as usize / PAGE_BYTES);
-            self.lines[board.line(page).count() - 1] += 1;
-            self.replaced[next] += (next != board.cache.next) as u64;
+        if call.address().is_some() {
+            self.replaced[before.cache.next] += (before.cache.next != board.cache.next) as u64;
         }
     }
 
@@ -102,6 +103,7 @@ impl Tally {
             missing.push(format!("a malformed line: {MALFORMED}"));
         }
         missing.extend(self.missing_corners(&Corner::OF_ONE_PAGE));
+        missing.extend(self.missing_corners(&Corner::OF_GRANTS));
         missing.extend(self.missing_translations());
         missing
     }
@@ -110,14 +112,19 @@ impl Tally {
         let mut missing = self.missing(Kind::LIBRARY, |_| true);
         missing.extend(self.missing(&[Kind::Sound], |_| true));
         missing.extend(self.missing_corners(&Corner::OF_ONE_PAGE));
+        missing.extend(self.missing_corners(&Corner::OF_GRANTS));
         missing.extend(self.missing_corners(&Corner::OF_RANGES));
+        missing.extend(self.missing_corners(&[Corner::RangeGrantOfPart]));
         missing.extend(self.missing_translations());
         missing
     }
 
     /// Of calls for one page on sound boards with memory of the right length.
     pub fn missing_of_one_page(&self) -> Vec<String> {
-        self.missing(Kind::ONE_PAGE, |number| number > 2 || number == 0)
+        let mut missing = self.missing(Kind::ONE_PAGE, |number| number > 2 || number == 0);
+        missing.extend(self.missing_corners(&Corner::OF_GRANTS));
+        missing.extend(self.missing_lines());
+        missing
     }
 
     fn missing(&self, kinds: &[Kind], possible: impl Fn(u32) -> bool) -> Vec<String> {
@@ -136,12 +143,17 @@ impl Tally {
         corners.iter().filter(|corner| !self.corners.contains_key(corner)).map(|corner| format!("{corner:?}")).collect()
     }
 
-    /// Each length of a translated line, and each place with a replaced entry.
+    /// Each length of a translated line, as a miss and as a hit, and each place with a replaced entry.
     fn missing_translations(&self) -> Vec<String> {
-        let never = |counts: &[u64]| (0..counts.len()).filter(|&at| counts[at] == 0).collect::<Vec<_>>();
-        let lines = never(&self.lines).into_iter().map(|at| format!("a translated line of {}", at + 1));
-        let places = never(&self.replaced).into_iter().map(|at| format!("place {at} replaced"));
-        lines.chain(places).collect()
+        let places = never(&self.replaced).map(|at| format!("place {at} replaced"));
+        self.missing_lines().into_iter().chain(places).collect()
+    }
+
+    fn missing_lines(&self) -> Vec<String> {
+        let [misses, hits] = &self.lines;
+        let misses = never(misses).map(|at| format!("a miss with links={}", at + 1));
+        let hits = never(hits).map(|at| format!("a hit with links={}", at + 1));
+        misses.chain(hits).collect()
     }
 
     // ---- what is printed -----------------------------------------------------------------------------------------------------
@@ -171,9 +183,10 @@ impl Tally {
     /// The corners that were reached.
     pub fn corners(&self) -> String {
         let [no, yes] = [0, 1].map(|number| self.answers[Kind::Sound as usize][number]);
-        let mut text =
-            format!("deepest line {}, most lent pages {}, translate hits {}\n", self.deepest_line, self.most_held, self.hits);
-        text += &format!("translated lines of 1 to {} pages: {}\n", self.sizes.spaces, spaced(&self.lines));
+        let mut text = format!("deepest line {}, most lent pages {}\n", self.deepest_line, self.most_held);
+        for (name, lines) in ["misses", "hits"].iter().zip(&self.lines) {
+            text += &format!("translate {name} with 1 to {} links: {}\n", self.sizes.spaces, spaced(lines));
+        }
         text += &format!("replaced entries of each place: {}\n", spaced(&self.replaced));
         if no + yes > 0 {
             text += &format!("sound answered yes {yes} times, no {no} times\n");
@@ -184,6 +197,44 @@ impl Tally {
     }
 }
 
+/// Where nothing was counted.
+fn never(counts: &[u64]) -> impl Iterator<Item = usize> + '_ {
+    (0..counts.len()).filter(|&at| counts[at] == 0)
+}
+
 fn spaced(counts: &[u64]) -> String {
     counts.iter().map(u64::to_string).collect::<Vec<_>>().join(" ")
+}
+
+#[cfg(test)]
+mod tests {
+    use super::*;
+    use crate::board::tests::board_k;
+
+    /// The calls of a session on board K, counted.
+    fn tally_of(calls: &[Call]) -> Tally {
+        let mut tally = Tally::new(Sizes::ENTRY);
+        let mut board = board_k(Sizes::ENTRY);
+        for call in calls {
+            let before = board.clone();
+            let reply = board.play(&mut vec![0; Sizes::ENTRY.memory()], call);
+            tally.record(call, &reply, &before, &board);
+        }
+        tally
+    }
+
+    /// A load of the page, or a refused translation, does not count as a translation of that length.
+    #[test]
+    fn each_length_is_missed_until_a_translation_has_it() {
+        let translate = |space, page: u32, rights| Call::Translate { space, address: 1024 * page, rights };
+        let load = Call::Load { space: 2, address: 3 * 1024 };
+        let missing = |calls: &[Call]| tally_of(calls).missing_lines();
+        let all = missing(&[load, load, translate(3, 1, 4)]);
+        assert_eq!(all.len(), 16, "{all:?}");
+        let less = missing(&[translate(2, 3, 4), translate(3, 1, 2), translate(3, 1, 2)]);
+        let found: Vec<&String> = all.iter().filter(|name| !less.contains(name)).collect();
+        assert_eq!(found, ["a miss with links=3", "a miss with links=4", "a hit with links=4"]);
+        let table = tally_of(&[translate(2, 3, 4), translate(2, 3, 2)]).corners();
+        assert!(table.contains("translate hits with 1 to 8 links: 0 0 1 0 0 0 0 0\n"), "{table}");
+    }
 }

@@ -10,8 +10,10 @@ use crate::sizes::Sizes;
 pub enum Fault {
     /// Grant takes no right from the pages below the giver.
     GrantSparesBelow,
-    /// Grant takes all rights from the giver.
-    GrantTakesAll,
+    /// Grant takes from the giver the rights that were granted, and no more: 01 as it was before M-103.
+    GrantTakesGranted,
+    /// Grant empties the giver, and takes from the pages below it only the rights that were granted.
+    GrantTakesGrantedBelow,
     /// Grant links the taker to the giver.
     GrantLinksToGiver,
     /// Grant cuts the pages that were below the giver before the taker was linked anew.
@@ -58,6 +60,14 @@ pub enum Fault {
     UnusedBytesPass,
     /// Out fields are left at what they were after a refusal.
     OutLeftAlone,
+    /// The number of links does not count the one to the frame.
+    LinksWithoutFrame,
+    /// A hit follows no link, and says so.
+    HitWithoutLinks,
+    /// A translation that is refused with 12 says how many links it followed.
+    RefusalSaysLinks,
+    /// load says how many links it followed.
+    LoadSaysLinks,
 }
 
 impl Fault {
@@ -70,9 +80,10 @@ impl Fault {
         Fault::LateFourteen,
     ];
 
-    pub const ALL: [Fault; 25] = [
+    pub const ALL: [Fault; 30] = [
         Fault::GrantSparesBelow,
-        Fault::GrantTakesAll,
+        Fault::GrantTakesGranted,
+        Fault::GrantTakesGrantedBelow,
         Fault::GrantLinksToGiver,
         Fault::GrantCutsOldLines,
         Fault::DirectChildrenOnly,
@@ -96,7 +107,25 @@ impl Fault {
         Fault::RingsPass,
         Fault::UnusedBytesPass,
         Fault::OutLeftAlone,
+        Fault::LinksWithoutFrame,
+        Fault::HitWithoutLinks,
+        Fault::RefusalSaysLinks,
+        Fault::LoadSaysLinks,
     ];
+}
+
+impl Fault {
+    /// True for the faults of what an accepted grant does.
+    fn changes_grant(self) -> bool {
+        matches!(
+            self,
+            Fault::GrantSparesBelow
+                | Fault::GrantTakesGranted
+                | Fault::GrantTakesGrantedBelow
+                | Fault::GrantLinksToGiver
+                | Fault::GrantCutsOldLines
+        )
+    }
 }
 
 /// A model with a fault.
@@ -130,26 +159,9 @@ fn tidy(sizes: Sizes, bytes: &mut [u8]) {
 /// The call as the faulty model makes it.
 fn play(fault: Fault, board: &mut Board, memory: &mut [u8], call: &Call) -> Reply {
     let faulty = match (fault, *call) {
-        (Fault::GrantSparesBelow, Call::Grant(asked)) => change_lending(board, &asked, Way::Grant, |board, deal| {
-            board.link_step(deal);
-            board.lose(deal.giver, deal.rights);
-        }),
-        (Fault::GrantTakesAll, Call::Grant(asked)) => change_lending(board, &asked, Way::Grant, |board, deal| {
-            board.link_step(deal);
-            board.flush_step(deal.giver, ALL_RIGHTS);
-        }),
-        (Fault::GrantLinksToGiver, Call::Grant(asked)) => change_lending(board, &asked, Way::Grant, |board, deal| {
-            board.link_step(&Deal { source: deal.giver, ..*deal });
-            board.lose(deal.giver, deal.rights);
-        }),
-        (Fault::GrantCutsOldLines, Call::Grant(asked)) => change_lending(board, &asked, Way::Grant, |board, deal| {
-            let below: Vec<Spot> = board.pages_below(deal.giver).collect();
-            board.link_step(deal);
-            for page in below {
-                board.lose(page, deal.rights);
-            }
-            board.lose(deal.giver, deal.rights);
-        }),
+        (_, Call::Grant(asked)) if fault.changes_grant() => {
+            change_lending(board, &asked, Way::Grant, |board, deal| wrong_grant(fault, board, deal))
+        }
         (Fault::DirectChildrenOnly, Call::Unmap(asked)) => direct_unmap(board, &asked),
         (Fault::CacheKeptBelow, Call::Flush(asked)) => cache_kept_below(board, &asked),
         (Fault::CacheDroppedForNothing, Call::Unmap(asked)) => cache_dropped(board, &asked),
@@ -199,6 +211,10 @@ fn play(fault: Fault, board: &mut Board, memory: &mut [u8], call: &Call) -> Repl
             reply.out[0] += (reply.number == 5) as u32;
             Some(reply)
         }
+        (Fault::LinksWithoutFrame | Fault::HitWithoutLinks | Fault::RefusalSaysLinks, Call::Translate { .. }) => {
+            Some(wrong_links(fault, board, memory, call))
+        }
+        (Fault::LoadSaysLinks, Call::Load { .. }) => Some(wrong_links(fault, board, memory, call)),
         _ => None,
     };
     faulty.unwrap_or_else(|| board.play(memory, call))
@@ -212,6 +228,22 @@ fn reply(answer: Result<u32, Refusal>) -> Option<Reply> {
 fn change_lending(board: &mut Board, asked: &Lending, way: Way, change: impl FnOnce(&mut Board, &Deal)) -> Option<Reply> {
     let deal = board.judge_lending(asked, way);
     reply(deal.map(|deal| board.count_emptied(|board| change(board, &deal))))
+}
+
+/// What an accepted grant does with a fault of it.
+fn wrong_grant(fault: Fault, board: &mut Board, deal: &Deal) {
+    let old_below: Vec<Spot> = board.pages_below(deal.giver).collect();
+    let source = if fault == Fault::GrantLinksToGiver { deal.giver } else { deal.source };
+    board.link_step(&Deal { source, ..*deal });
+    match fault {
+        Fault::GrantTakesGranted => board.flush_step(deal.giver, deal.rights),
+        Fault::GrantTakesGrantedBelow => board.unmap_step(deal.giver, deal.rights),
+        Fault::GrantCutsOldLines => old_below.into_iter().for_each(|page| board.lose(page, ALL_RIGHTS)),
+        _ => (),
+    }
+    if fault != Fault::GrantTakesGranted {
+        board.lose(deal.giver, ALL_RIGHTS);
+    }
 }
 
 fn direct_unmap(board: &mut Board, asked: &Withdrawal) -> Option<Reply> {
@@ -345,6 +377,22 @@ fn load_asks_nothing(board: &mut Board, memory: &mut [u8], space: u32, address: 
     let rights = board.slot(page).rights as u32;
     let found = board.translate(space, address, rights).expect("the page is held");
     Some(Reply::done(memory[found.address] as u32, 0))
+}
+
+/// The right answer but for the number of links.
+fn wrong_links(fault: Fault, board: &mut Board, memory: &mut [u8], call: &Call) -> Reply {
+    let mut reply = board.play(memory, call);
+    let followed = |board: &Board| {
+        let page = spot(call.spaces()[0] as usize, call.address().unwrap_or(0) as usize / 1024);
+        board.links(page) as u32
+    };
+    match (fault, reply.number) {
+        (Fault::LinksWithoutFrame, 0) => reply.out[2] -= 1,
+        (Fault::HitWithoutLinks, 0) => reply.out[2] *= 1 - reply.out[1],
+        (Fault::RefusalSaysLinks, 12) | (Fault::LoadSaysLinks, 0) => reply.out[2] = followed(board),
+        _ => (),
+    }
+    reply
 }
 
 /// The board without the pages whose lines do not reach space 0.

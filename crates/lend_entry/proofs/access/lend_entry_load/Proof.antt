@@ -28,7 +28,7 @@ returns : tie.Need-returns
 returns c =
     let a = c .before .before .before .before .before .before .before .before .before .before .before .before .args in
     let made = c .before .before .before .before .before .before .before in
-    answered-on sizes (Load (a .space) (a .address)) _ _ _ (loaded (made .load .result) (a .memory .now)) (made .before .read-image .ensures) (made .load .ensures) _ _ _ _ _ _ (c .before .before .finish .ensures) refl refl
+    answered-on sizes (Load (a .space) (a .address)) _ _ _ (loaded (made .load .result) (a .memory .now)) (made .before .read-image .ensures) (made .load .ensures) _ _ _ _ _ _ _ (c .before .before .finish .ensures) refl refl
 
 pub lend-entry-load-spec : {M : Type 1} → statement M
 lend-entry-load-spec =

@@ -27,7 +27,7 @@ returns : tie.Need-returns
 returns c =
     let a = c .before .before .before .before .before .before .before .before .before .before .before .before .before .before .args in
     let made = c .before .before .before .before .before .before .before .before in
-    answered-on sizes (Store (a .space) (a .address) (a .value)) _ _ _ _ (made .before .before .read-image .ensures) (made .store .ensures) _ _ _ _ _ _ (c .before .before .finish .ensures) refl refl
+    answered-on sizes (Store (a .space) (a .address) (a .value)) _ _ _ _ (made .before .before .read-image .ensures) (made .store .ensures) _ _ _ _ _ _ _ (c .before .before .finish .ensures) refl refl
 
 pub lend-entry-store-spec : {M : Type 1} → statement M
 lend-entry-store-spec =

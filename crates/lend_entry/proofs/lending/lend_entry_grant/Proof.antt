@@ -25,7 +25,7 @@ returns : tie.Need-returns
 returns c =
     let a = c .before .before .before .before .before .before .before .before .before .before .args in
     let made = c .before .before .before .before .before .before in
-    answered-on sizes (Grant (a .from) (a .page) (a .to) (a .at) (a .rights)) _ _ _ (outcome (made .grant .result)) (made .before .read-image .ensures) (made .grant .ensures) _ _ _ _ _ _ (c .before .before .finish .ensures) refl refl
+    answered-on sizes (Grant (a .from) (a .page) (a .to) (a .at) (a .rights)) _ _ _ (outcome (made .grant .result)) (made .before .read-image .ensures) (made .grant .ensures) _ _ _ _ _ _ _ (c .before .before .finish .ensures) refl refl
 
 pub lend-entry-grant-spec : {M : Type 1} → statement M
 lend-entry-grant-spec =

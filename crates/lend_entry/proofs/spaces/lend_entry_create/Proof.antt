@@ -25,7 +25,7 @@ returns : tie.Need-returns
 returns c =
     let a = c .before .before .before .before .before .before .before .before .before .before .args in
     let made = c .before .before .before .before .before .before in
-    answered-on sizes (Create (a .space)) _ _ _ (outcome (made .create .result)) (made .before .read-image .ensures) (made .create .ensures) _ _ _ _ _ _ (c .before .before .finish .ensures) refl refl
+    answered-on sizes (Create (a .space)) _ _ _ (outcome (made .create .result)) (made .before .read-image .ensures) (made .create .ensures) _ _ _ _ _ _ _ (c .before .before .finish .ensures) refl refl
 
 pub lend-entry-create-spec : {M : Type 1} → statement M
 lend-entry-create-spec =

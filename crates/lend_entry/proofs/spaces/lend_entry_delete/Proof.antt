@@ -25,7 +25,7 @@ returns : tie.Need-returns
 returns c =
     let a = c .before .before .before .before .before .before .before .before .before .before .args in
     let made = c .before .before .before .before .before .before in
-    answered-on sizes (Delete (a .space)) _ _ _ (outcome (made .delete .result)) (made .before .read-image .ensures) (made .delete .ensures) _ _ _ _ _ _ (c .before .before .finish .ensures) refl refl
+    answered-on sizes (Delete (a .space)) _ _ _ (outcome (made .delete .result)) (made .before .read-image .ensures) (made .delete .ensures) _ _ _ _ _ _ _ (c .before .before .finish .ensures) refl refl
 
 pub lend-entry-delete-spec : {M : Type 1} → statement M
 lend-entry-delete-spec =

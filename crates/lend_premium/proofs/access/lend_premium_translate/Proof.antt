@@ -3,9 +3,10 @@
 use Rattle.lend_premium.proofs as own
 use Rattle.premium.specs.Sizes.{sizes}
 use Rattle.image.proofs.Answered.{answered-on}
+use Prim.Native.Nat.{ℕ}
 use mathlib.Core.Path.{refl, ap}
 use Rattle.lend.specs.Calls.{Translate}
-use Rattle.image.specs.Answered.{fourOf}
+use Rattle.image.specs.Answered.{threeOf}
 use Rattle.premium_access.specs.Answers.{translated}
 use borrow.Author.Needs.{needs}
 use own.access.lend_premium_translate.Statement.{statement}
@@ -30,8 +31,8 @@ returns : tie.Need-returns
 returns c =
     let a = c .before .before .before .before .before .before .before .before .before .before .before .args in
     let made = c .before .before .before .before .before .before .before in
-    answered-on sizes (Translate (a .space) (a .address) (a .rights)) _ _ _ (translated (made .translate .result)) (made .before .read-image .ensures) (made .translate .ensures) _ _ _ _ _ _ (c .before .before .finish .ensures) refl
-    (ap (fourOf (made .translate .result .address)) (c .before .before .before .before .before .pick .ensures))
+    answered-on sizes (Translate (a .space) (a .address) (a .rights)) _ _ _ (translated (made .translate .result)) (made .before .read-image .ensures) (made .translate .ensures) _ _ _ _ _ _ _ (c .before .before .finish .ensures) refl
+    (ap (λ (n : ℕ). threeOf (made .translate .result .address) n (made .translate .result .links)) (c .before .before .before .before .before .pick .ensures))
 
 pub lend-premium-translate-spec : {M : Type 1} → statement M
 lend-premium-translate-spec =

@@ -8,7 +8,7 @@ use own.finish.finish.Statement.{statement}
 use own.finish.finish.Tie as tie
 
 returns : tie.Need-returns
-returns c = finished-refused sizes _ _ _ _ _ (c .if1 .taken)
+returns c = finished-refused sizes _ _ _ _ _ _ (c .if1 .taken)
 
 write-image-requires : tie.Need-write-image-requires
 write-image-requires c κs = search needs
@@ -17,7 +17,7 @@ same-length : tie.Need-same-length
 same-length c = search needs
 
 returns-2 : tie.Need-returns-2
-returns-2 c = finished-done sizes _ _ _ _ _ _ (c .before .before .before .before .if1 .left) (c .before .before .write-image .ensures)
+returns-2 c = finished-done sizes _ _ _ _ _ _ _ (c .before .before .before .before .if1 .left) (c .before .before .write-image .ensures)
 
 pub finish-spec : {M : Type 1} → statement M
 finish-spec = tie.close (tie.spec returns write-image-requires same-length returns-2)

@@ -36,11 +36,14 @@ byte-at-requires c κs = search needs
 cast-t15 : tie.Need-cast-t15
 cast-t15 c = search needs
 
+cast-t16 : tie.Need-cast-t16
+cast-t16 c = search needs
+
 returns-2 : tie.Need-returns-2
 returns-2 c =
-    let at-look = c .before .before in
+    let at-look = c .before .before .before in
     let accepted = at-look .before in
-    translate-done sizes _ _ _ _ _ (accepted .before .access-number .ensures) (accepted .if1 .left) (seen (at-look .look .result)) (c .byte-at .result) (at-look .look .ensures) (c .byte-at .ensures)
+    translate-done sizes _ _ _ _ _ (accepted .before .access-number .ensures) (accepted .if1 .left) (seen (at-look .look .result)) (c .before .byte-at .result) (at-look .look .ensures) (c .before .byte-at .ensures)
 
 pub translate-spec : {M : Type 1} → statement M
 translate-spec =
@@ -53,4 +56,5 @@ translate-spec =
     look-requires
     byte-at-requires
     cast-t15
+    cast-t16
     returns-2)
