@@ -58,12 +58,12 @@ output =
     ∷ []
 
 pub session : scriptOutput sizes.entry (text input) ≡ text output
-unfolding placeFor cached emptyIn goesTo nextAfter lostRight cases number boardAfter memoryAfter report step emptied mapped line frame links every some count tabulateFrom less within slotTest pagesTest cacheTest soundTest startBoard physical hit looked unmapped flushed decimalIn decimal digitOf firstDigit oneMoreDigit numberAt keyAt fieldAt oneField threeFields fiveFields lines createOr deleteOr unmapOr flushOr mapOr grantOr translateOr requestOf isComment entry answerLine translationLine malformedLine liveLine pageLine heldLine judged turn saidLine liveNumber slotLine pagesFrom pagesListed heldOutside listingOf answers outputOf scriptOutput
+unfolding placeFor cached emptyIn goesTo nextAfter lostRight cases number boardAfter memoryAfter report step emptied mapped line frame links every some count tabulateFrom less within slotTest pagesTest cacheTest soundTest startBoard physical linksTo hit looked unmapped flushed decimalIn decimal digitOf firstDigit oneMoreDigit numberAt keyAt fieldAt oneField threeFields fiveFields lines createOr deleteOr unmapOr flushOr mapOr grantOr translateOr requestOf isComment entry answerLine translationLine malformedLine liveLine pageLine heldLine judged turn saidLine liveNumber slotLine pagesFrom pagesListed heldOutside listingOf answers outputOf scriptOutput
 session = refl
 
 -- and the same on the premium model
 pub premium-session : scriptOutput sizes.premium (text input) ≡ text output
-unfolding placeFor cached emptyIn goesTo nextAfter lostRight cases number boardAfter memoryAfter report step emptied mapped line frame links every some count tabulateFrom less within slotTest pagesTest cacheTest soundTest startBoard physical hit looked unmapped flushed decimalIn decimal digitOf firstDigit oneMoreDigit numberAt keyAt fieldAt oneField threeFields fiveFields lines createOr deleteOr unmapOr flushOr mapOr grantOr translateOr requestOf isComment entry answerLine translationLine malformedLine liveLine pageLine heldLine judged turn saidLine liveNumber slotLine pagesFrom pagesListed heldOutside listingOf answers outputOf scriptOutput
+unfolding placeFor cached emptyIn goesTo nextAfter lostRight cases number boardAfter memoryAfter report step emptied mapped line frame links every some count tabulateFrom less within slotTest pagesTest cacheTest soundTest startBoard physical linksTo hit looked unmapped flushed decimalIn decimal digitOf firstDigit oneMoreDigit numberAt keyAt fieldAt oneField threeFields fiveFields lines createOr deleteOr unmapOr flushOr mapOr grantOr translateOr requestOf isComment entry answerLine translationLine malformedLine liveLine pageLine heldLine judged turn saidLine liveNumber slotLine pagesFrom pagesListed heldOutside listingOf answers outputOf scriptOutput
 premium-session = refl
 
 -- ── what else the document says of lines, each on a script of its own ────
@@ -79,7 +79,7 @@ pub record Corners : Type 0 where
   pub other-order : scriptOutput sizes.entry (bytes "op=unmap page=0 space=1 rights=2\n") ≡ bytes "line=1 answer=16\nlive=3\nheld=0\n"
 
 pub corners : Corners
-unfolding placeFor cached emptyIn goesTo nextAfter lostRight cases number boardAfter memoryAfter report step emptied mapped line frame links every some count tabulateFrom less within slotTest pagesTest cacheTest soundTest startBoard physical hit looked unmapped flushed decimalIn decimal digitOf firstDigit oneMoreDigit numberAt keyAt fieldAt oneField threeFields fiveFields lines createOr deleteOr unmapOr flushOr mapOr grantOr translateOr requestOf isComment entry answerLine translationLine malformedLine liveLine pageLine heldLine judged turn saidLine liveNumber slotLine pagesFrom pagesListed heldOutside listingOf answers outputOf scriptOutput
+unfolding placeFor cached emptyIn goesTo nextAfter lostRight cases number boardAfter memoryAfter report step emptied mapped line frame links every some count tabulateFrom less within slotTest pagesTest cacheTest soundTest startBoard physical linksTo hit looked unmapped flushed decimalIn decimal digitOf firstDigit oneMoreDigit numberAt keyAt fieldAt oneField threeFields fiveFields lines createOr deleteOr unmapOr flushOr mapOr grantOr translateOr requestOf isComment entry answerLine translationLine malformedLine liveLine pageLine heldLine judged turn saidLine liveNumber slotLine pagesFrom pagesListed heldOutside listingOf answers outputOf scriptOutput
 corners = record {
   empty-input = refl;
   empty-line = refl;
