@@ -16,6 +16,7 @@
 static uint8_t image[SIZE(IMAGE)];
 static uint8_t memory[SIZE(MEMORY)];
 static uint8_t before[SIZE(IMAGE)];
+static uint8_t text[256];
 static uint32_t out[4];
 
 static void answer(const char *call, uint32_t number)
@@ -51,6 +52,24 @@ static void use(void)
            CALL(load)(image, sizeof image, memory, sizeof memory, 1, 5 * LEND_PAGE_BYTES + 10, out));
     answer("load with one byte of memory missing",
            CALL(load)(image, sizeof image, memory, sizeof memory - 1, 2, address, out));
+}
+
+/* The board as a listing, and back: its cache is empty then. */
+static void list(void)
+{
+    size_t length;
+
+    answer("write the listing into 10 bytes", CALL(write_listing)(image, sizeof image, text, 10, out));
+    answer("write the listing", CALL(write_listing)(image, sizeof image, text, sizeof text, out));
+    length = out[0];
+    printf("%.*s", (int)length, (const char *)text);
+    memset(before, 255, sizeof before);
+    answer("read it over any bytes", CALL(read_listing)(before, sizeof before, text, length, out));
+    printf("pages and live spaces are the same: %s\n", memcmp(before, image, SIZE(CACHE)) == 0 ? "yes" : "no");
+    answer("read it without its last newline", CALL(read_listing)(before, sizeof before, text, length - 1, out));
+    answer("start", CALL(start)(image, sizeof image, out));
+    printf("the start board came back: %s\n", memcmp(before, image, sizeof image) == 0 ? "yes" : "no");
+    answer("read the listing", CALL(read_listing)(image, sizeof image, text, length, out));
 }
 
 /* What was lent is taken back: the lender wins. */
@@ -94,6 +113,7 @@ int main(void)
     answer("start", CALL(start)(image, sizeof image, out));
     lend();
     use();
+    list();
     take_back();
     refuse();
     return 0;

@@ -1,7 +1,8 @@
 /* Serves the C library's calls over standard input and output, so that a program of any language and processor can drive it.
  * One text for both models: the entry model's calls, or with PREMIUM defined the premium model's.
  *
- * A request: the call's letter, seven numbers, a byte, the lengths of image and memory (each a uint32_t), and their bytes.
+ * A request: the call's letter, seven numbers, a byte, the lengths of image and memory (each a uint32_t), and their bytes. To the
+ * calls that write and read a listing, the memory is its text.
  * The reply: the number, the four out fields, a byte that is 1 where the call changed a byte outside what was lent to it, and the
  * bytes of image and memory as the call left them. Numbers are little-endian.
  */
@@ -87,6 +88,8 @@ static uint32_t call(struct request *r, uint32_t *out) {
     case 'F': return CALL(flush_range)(b, length, n[0], n[1], n[2], n[3], out);
     case 'M': return CALL(map_range)(b, length, n[0], n[1], n[2], n[3], n[4], n[5], n[6], out);
     case 'G': return CALL(grant_range)(b, length, n[0], n[1], n[2], n[3], n[4], n[5], n[6], out);
+    case 'W': return CALL(write_listing)(b, length, m, bytes, out);
+    case 'R': return CALL(read_listing)(b, length, m, bytes, out);
     default: exit(3);
     }
 }

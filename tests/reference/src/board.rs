@@ -527,7 +527,7 @@ impl Board {
         Ok(())
     }
 
-    /// Any call, answered as the C interface does.
+    /// Any call, answered as the C interface does. To the calls of listings the memory is their text.
     pub fn play(&mut self, memory: &mut [u8], call: &Call) -> Reply {
         let answer = match *call {
             Call::Start => {
@@ -550,6 +550,8 @@ impl Board {
             Call::GrantRange(asked) => {
                 Ok(self.grant_range(asked.from, asked.given, asked.to, asked.taken, asked.rights).into())
             }
+            Call::WriteListing => self.write_listing(memory).map(|length| Reply::done(length, 0)),
+            Call::ReadListing => self.read_listing(memory).map(|()| Reply::done(0, 0)),
         };
         answer.unwrap_or_else(Reply::from)
     }

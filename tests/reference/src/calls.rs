@@ -22,6 +22,12 @@ pub enum Refusal {
     Ring = 13,
     SourceBelow = 14,
     TakerBelow = 15,
+    /// A listing is malformed (M-102).
+    Listing = 17,
+    /// A listing's pages are out of order or named twice, or `held` is wrong.
+    ListingOrder = 18,
+    /// The buffer for a listing is too short.
+    Buffer = 20,
 }
 
 impl Refusal {
@@ -34,7 +40,7 @@ impl Refusal {
 pub const MALFORMED: u32 = 16;
 
 /// How many numbers the table has, 0 included.
-pub const NUMBERS: usize = 17;
+pub const NUMBERS: usize = 21;
 
 /// What unmap and flush take.
 #[derive(Clone, Copy, Debug, PartialEq, Eq)]
@@ -97,6 +103,8 @@ pub enum Call {
     FlushRange(RangeWithdrawal),
     MapRange(RangeLending),
     GrantRange(RangeLending),
+    WriteListing,
+    ReadListing,
 }
 
 /// Which call it is.
@@ -117,6 +125,8 @@ pub enum Kind {
     MapRange,
     GrantRange,
     Sound,
+    WriteListing,
+    ReadListing,
 }
 
 impl Call {
@@ -137,6 +147,8 @@ impl Call {
             Call::FlushRange(_) => Kind::FlushRange,
             Call::MapRange(_) => Kind::MapRange,
             Call::GrantRange(_) => Kind::GrantRange,
+            Call::WriteListing => Kind::WriteListing,
+            Call::ReadListing => Kind::ReadListing,
         }
     }
 }
@@ -145,7 +157,7 @@ impl Call {
 impl Call {
     pub fn spaces(&self) -> Vec<u32> {
         match *self {
-            Call::Start | Call::Sound => vec![],
+            Call::Start | Call::Sound | Call::WriteListing | Call::ReadListing => vec![],
             Call::Create { space } | Call::Delete { space } => vec![space],
             Call::Unmap(asked) | Call::Flush(asked) => vec![asked.space],
             Call::Map(asked) | Call::Grant(asked) => vec![asked.from, asked.to],
@@ -181,7 +193,7 @@ impl Call {
 
 impl Kind {
     /// How many kinds there are.
-    pub const COUNT: usize = 15;
+    pub const COUNT: usize = 17;
 
     /// The calls that a script has.
     pub const SCRIPT: [Kind; 7] =
@@ -212,6 +224,9 @@ impl Kind {
     /// The calls for one page or one space.
     pub const ONE_PAGE: &'static [Kind] = Kind::BOARD.split_at(9).0;
 
+    /// The calls that write and read listings.
+    pub const LISTING: &'static [Kind] = &[Kind::WriteListing, Kind::ReadListing];
+
     pub fn name(self) -> &'static str {
         match self {
             Kind::Start => "start",
@@ -229,6 +244,8 @@ impl Kind {
             Kind::MapRange => "maps",
             Kind::GrantRange => "grants",
             Kind::Sound => "sound",
+            Kind::WriteListing => "write",
+            Kind::ReadListing => "read",
         }
     }
 
@@ -246,12 +263,14 @@ impl Kind {
             Kind::UnmapRange => &[0, 1, 3, 4, 6, 7],
             Kind::FlushRange => &[0, 1, 3, 4, 6, 7, 9],
             Kind::MapRange | Kind::GrantRange => &[0, 1, 3, 4, 6, 7, 8, 9, 11, 12, 13, 14, 15],
+            Kind::WriteListing => &[0, 1, 20],
+            Kind::ReadListing => &[0, 1, 17, 18],
         }
     }
 
-    /// True for the calls that are given memory.
+    /// True for the calls that are given bytes beside the image: memory, or the text of a listing.
     pub fn takes_memory(self) -> bool {
-        matches!(self, Kind::Load | Kind::Store)
+        matches!(self, Kind::Load | Kind::Store | Kind::WriteListing | Kind::ReadListing)
     }
 }
 

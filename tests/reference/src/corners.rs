@@ -1,8 +1,11 @@
 //! The corners of a model, which every run has to reach: the ends of each limit, on both sides, the largest ranges, and grants of
-//! fewer rights than the giver holds.
+//! fewer rights than the giver holds; and of listings, the buffers and images that tell one answer from another.
 
 use crate::board::{spot, Board};
 use crate::calls::{Call, Lending, Refusal, Reply};
+use crate::drive_library::World;
+use crate::image;
+use crate::listing;
 use crate::sizes::{Sizes, PAGE_BYTES};
 
 /// Something at a limit of the model. `Upper` is the upper half: of the premium model, what the entry model has not.
@@ -32,6 +35,27 @@ pub enum Corner {
     GrantOfPartToBelow,
     /// A grant over a range, every page of which was done, of fewer rights than one of the givers holds.
     RangeGrantOfPart,
+    /// A listing was written into a buffer of just its length; into a longer one.
+    ExactBuffer,
+    LongerBuffer,
+    /// The buffer was one byte too short; it had no byte.
+    OneByteShort,
+    NoBuffer,
+    /// An unsound board was written, and the buffer had no byte: 1 comes before 20.
+    UnsoundNoBuffer,
+    /// The image has another length, in writing; in reading, with a good listing, and with a malformed one.
+    WriteWrongLength,
+    ReadWrongLength,
+    MalformedWrongLength,
+    /// A good listing was read over bytes that are no board's, and over a board with a filled cache.
+    ReadOverNoBoard,
+    ReadOverCache,
+    /// A listing was refused over a sound board other than the start board.
+    RefusedOverBoard,
+    /// A listing with every page was read, one with none, and one in which every space is live.
+    FullListing,
+    EmptyListing,
+    EverySpaceLive,
 }
 
 impl Corner {
@@ -85,6 +109,67 @@ impl Corner {
         let to_below = part && before.is_below(taker, giver);
         let reached = Corner::OF_GRANTS.into_iter().zip([part, over, to_below]);
         reached.filter(|(_, is_reached)| *is_reached).map(|(corner, _)| corner).collect()
+    }
+
+    /// The corners of the calls that write and read listings.
+    pub const OF_LISTINGS: [Corner; 14] = [
+        Corner::ExactBuffer,
+        Corner::LongerBuffer,
+        Corner::OneByteShort,
+        Corner::NoBuffer,
+        Corner::UnsoundNoBuffer,
+        Corner::WriteWrongLength,
+        Corner::ReadWrongLength,
+        Corner::MalformedWrongLength,
+        Corner::ReadOverNoBoard,
+        Corner::ReadOverCache,
+        Corner::RefusedOverBoard,
+        Corner::FullListing,
+        Corner::EmptyListing,
+        Corner::EverySpaceLive,
+    ];
+
+    /// The corners that writing or reading a listing has reached: image and text before the call, and its answer.
+    pub fn of_listing(sizes: Sizes, before: &World, call: &Call, reply: &Reply) -> Vec<Corner> {
+        let reached = match call {
+            Call::WriteListing => Corner::of_writing(sizes, before, reply),
+            Call::ReadListing => Corner::of_reading(sizes, before, reply),
+            _ => vec![],
+        };
+        reached.into_iter().filter(|(_, is_reached)| *is_reached).map(|(corner, _)| corner).collect()
+    }
+
+    fn of_writing(sizes: Sizes, before: &World, reply: &Reply) -> Vec<(Corner, bool)> {
+        let (number, room) = (reply.number, before.memory.len());
+        let needed = || image::decode(sizes, &before.image).map_or(0, |board| listing::write(&board).len());
+        vec![
+            (Corner::ExactBuffer, number == 0 && room == reply.out[0] as usize),
+            (Corner::LongerBuffer, number == 0 && room > reply.out[0] as usize),
+            (Corner::OneByteShort, number == Refusal::Buffer.number() && room + 1 == needed()),
+            (Corner::NoBuffer, number == Refusal::Buffer.number() && room == 0),
+            (Corner::UnsoundNoBuffer, number == 1 && room == 0 && before.image.len() == sizes.image()),
+            (Corner::WriteWrongLength, number == 1 && before.image.len() != sizes.image()),
+        ]
+    }
+
+    fn of_reading(sizes: Sizes, before: &World, reply: &Reply) -> Vec<(Corner, bool)> {
+        let old = image::decode(sizes, &before.image);
+        let read = listing::read(sizes, &before.memory);
+        let right_length = before.image.len() == sizes.image();
+        let done = right_length && reply.number == 0;
+        let held = read.as_ref().map_or(0, |board| board.lent_pages().count());
+        let cached = |board: &Board| board.cache.places.iter().any(|place| place.filled());
+        let lent = |board: &Board| board.sound() && *board != Board::start(sizes);
+        vec![
+            (Corner::ReadWrongLength, !right_length && read.is_ok()),
+            (Corner::MalformedWrongLength, !right_length && read == Err(Refusal::Listing)),
+            (Corner::ReadOverNoBoard, done && old.is_none()),
+            (Corner::ReadOverCache, done && old.as_ref().is_some_and(cached)),
+            (Corner::RefusedOverBoard, right_length && !done && old.as_ref().is_some_and(lent)),
+            (Corner::FullListing, done && held == (sizes.spaces - 1) * sizes.pages),
+            (Corner::EmptyListing, done && held == 0),
+            (Corner::EverySpaceLive, done && read.is_ok_and(|board| board.live.iter().all(|&live| live))),
+        ]
     }
 
     /// The corners that a call and its answer have reached.
@@ -149,6 +234,28 @@ mod tests {
 
     fn reached(sizes: Sizes, call: Call, reply: Reply) -> Vec<Corner> {
         Corner::reached(sizes, &call, &reply)
+    }
+
+    #[test]
+    fn buffers_and_images_of_listings() {
+        let of_listing = |board: &Board, text: &[u8], call: Call| {
+            let before = World { image: image::encode(board), memory: text.to_vec() };
+            let mut after = before.clone();
+            let reply = image::play(Sizes::ENTRY, &mut after.image, &mut after.memory, &call);
+            Corner::of_listing(Sizes::ENTRY, &before, &call, &reply)
+        };
+        let (start, good) = (Board::start(Sizes::ENTRY), b"live=3\nheld=0\n");
+        assert_eq!(of_listing(&start, good, Call::WriteListing), [Corner::ExactBuffer]);
+        assert_eq!(of_listing(&start, &[0; 15], Call::WriteListing), [Corner::LongerBuffer]);
+        assert_eq!(of_listing(&start, &[0; 13], Call::WriteListing), [Corner::OneByteShort]);
+        assert_eq!(of_listing(&start, &[], Call::WriteListing), [Corner::NoBuffer]);
+        assert_eq!(of_listing(&start, good, Call::ReadListing), [Corner::EmptyListing]);
+        assert_eq!(of_listing(&start, b"x", Call::ReadListing), []);
+        assert_eq!(of_listing(&board_k(Sizes::ENTRY), b"x", Call::ReadListing), [Corner::RefusedOverBoard]);
+        let other = Board::start(Sizes::PREMIUM);
+        assert_eq!(of_listing(&other, good, Call::WriteListing), [Corner::WriteWrongLength]);
+        assert_eq!(of_listing(&other, good, Call::ReadListing), [Corner::ReadWrongLength]);
+        assert_eq!(of_listing(&other, b"x", Call::ReadListing), [Corner::MalformedWrongLength]);
     }
 
     #[test]

@@ -33,9 +33,9 @@ pub struct World {
 }
 
 /// A call to which the two answer differently.
-struct Mismatch {
-    expected: (Reply, World),
-    seen: (Reply, World),
+pub struct Mismatch {
+    pub expected: (Reply, World),
+    pub seen: (Reply, World),
 }
 
 /// A list of calls from a world, the last of which is answered differently.
@@ -287,18 +287,24 @@ pub fn only(bytes: &[u8], kept: &[std::ops::Range<usize>]) -> Vec<u8> {
     only
 }
 
-/// A world: the records that are not as in the start board, the whole image, and the bytes of memory other than 0.
-pub fn show_world(sizes: Sizes, world: &World) -> String {
-    let mut text = format!("from this image of {} bytes:\n", world.image.len());
-    for chunk in world.image.chunks(64) {
+/// An image, and its records that are not as in the start board.
+pub fn show_image(sizes: Sizes, image: &[u8]) -> String {
+    let mut text = format!("from this image of {} bytes:\n", image.len());
+    for chunk in image.chunks(64) {
         let hex: String = chunk.iter().map(|byte| format!("{byte:02x}")).collect();
         text += &format!("    {hex}\n");
     }
     let start = image::encode(&Board::start(sizes));
-    if world.image.len() == start.len() {
+    if image.len() == start.len() {
         text += "which is the start board but for:\n";
-        text += &show_records(sizes, &start, &world.image, |_, now| now);
+        text += &show_records(sizes, &start, image, |_, now| now);
     }
+    text
+}
+
+/// A world: its image, and the bytes of memory other than 0.
+pub fn show_world(sizes: Sizes, world: &World) -> String {
+    let mut text = show_image(sizes, &world.image);
     let other: Vec<usize> = (0..world.memory.len()).filter(|&at| world.memory[at] != 0).collect();
     text += &format!("and {} bytes of memory, all 0", world.memory.len());
     for &at in other.iter().take(50) {
@@ -320,7 +326,8 @@ fn show_records(sizes: Sizes, first: &[u8], second: &[u8], show: impl Fn(String,
     text
 }
 
-fn show_mismatch(sizes: Sizes, mismatch: &Mismatch) -> String {
+/// The answers and the bytes that differ; the memory is the text in calls of listings.
+pub fn show_mismatch(sizes: Sizes, mismatch: &Mismatch) -> String {
     let (expected, ours) = &mismatch.expected;
     let (seen, theirs) = &mismatch.seen;
     let mut text = String::new();
@@ -337,7 +344,7 @@ fn show_mismatch(sizes: Sizes, mismatch: &Mismatch) -> String {
         text += "    the image has changed\n";
     }
     for at in (0..ours.memory.len()).filter(|&at| ours.memory[at] != theirs.memory[at]).take(20) {
-        text += &format!("    memory {at}: expected {}, seen {}\n", ours.memory[at], theirs.memory[at]);
+        text += &format!("    memory or text {at}: expected {}, seen {}\n", ours.memory[at], theirs.memory[at]);
     }
     text
 }

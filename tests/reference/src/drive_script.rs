@@ -1,5 +1,6 @@
 //! Holds a script program against the model: random sessions, outputs compared byte for byte.
 
+use crate::board::Board;
 use crate::command::command;
 use crate::random::Random;
 use crate::script;
@@ -77,7 +78,7 @@ pub fn drive(
 
 /// The numbered random session of a seed.
 fn compose(sizes: Sizes, seed: u64, part: u64, tally: &mut Tally) -> Vec<u8> {
-    let session = random_session(&mut Random::of_part(seed, part), sizes);
+    let session = random_session(&mut Random::of_part(seed, part), Board::start(sizes));
     for flaw in session.flaws {
         tally.count_named(format!("{flaw:?}"));
     }
@@ -86,9 +87,14 @@ fn compose(sizes: Sizes, seed: u64, part: u64, tally: &mut Tally) -> Vec<u8> {
 
 /// What the model writes, with its answers counted.
 fn tallied_answer(sizes: Sizes, input: &[u8], tally: &mut Tally) -> Vec<u8> {
+    answer_counted(Board::start(sizes), input, tally)
+}
+
+/// What the model writes from this board, with its answers counted.
+pub fn answer_counted(board: Board, input: &[u8], tally: &mut Tally) -> Vec<u8> {
     let mut malformed = 0;
     let output = script::answer_with(
-        sizes,
+        board,
         input,
         |board, call| {
             let before = board.clone();
@@ -151,7 +157,7 @@ fn keep_file(seed: u64, part: usize, session: &[u8]) -> String {
 }
 
 /// A line as it can be printed.
-fn shown(line: &[u8]) -> String {
+pub fn shown(line: &[u8]) -> String {
     let start = line[..line.len().min(120)].escape_ascii().to_string();
     if line.len() > 120 {
         format!("{start}... ({} bytes)", line.len())
@@ -161,7 +167,7 @@ fn shown(line: &[u8]) -> String {
 }
 
 /// What differs first between the model's output and the program's.
-fn first_difference(expected: &[u8], seen: &Outcome) -> String {
+pub fn first_difference(expected: &[u8], seen: &Outcome) -> String {
     let mut text = match &seen.complaint {
         Some(complaint) => format!("the program {complaint}\n"),
         None => String::new(),

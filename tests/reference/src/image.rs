@@ -67,7 +67,8 @@ pub fn play(sizes: Sizes, image: &mut [u8], memory: &mut [u8], call: &Call) -> R
     play_with(sizes, image, memory, call, |board, memory, call| board.play(memory, call))
 }
 
-/// As `play`, with what the board does given. It is not asked for an image that is no board's.
+/// As `play`, with what the board does given. It is not asked for an image that is no board's. start and read_listing take any
+/// bytes of the right length.
 pub fn play_with(
     sizes: Sizes,
     image: &mut [u8],
@@ -80,6 +81,12 @@ pub fn play_with(
         (Call::Start, _) if right_length => {
             image.copy_from_slice(&encode(&Board::start(sizes)));
             Reply::done(0, 0)
+        }
+        (Call::ReadListing, _) if right_length => {
+            let mut board = Board::start(sizes);
+            let reply = play(&mut board, memory, call);
+            image.copy_from_slice(&encode(&board));
+            reply
         }
         (Call::Sound, None) => Reply::bare(0),
         (_, None) => Refusal::Unsound.into(),
@@ -215,6 +222,40 @@ mod tests {
             assert_eq!(image, encode(&Board::start(sizes)));
             assert_eq!(play(sizes, &mut image, &mut [], &Call::Sound), Reply::bare(1));
             assert_eq!(play(sizes, &mut image[1..], &mut [], &Call::Sound), Reply::bare(0));
+        }
+    }
+
+    #[test]
+    fn reading_a_listing_takes_any_bytes_of_the_right_length() {
+        for sizes in Sizes::MODELS {
+            let mut text = b"live=3\nspace=1 page=0 parent=0 at=0 rights=4\nheld=1\n".to_vec();
+            for image in [vec![9; sizes.image()], encode(&board_k(sizes))] {
+                let mut read = image.clone();
+                assert_eq!(play(sizes, &mut read, &mut text, &Call::ReadListing), Reply::bare(0));
+                assert_eq!(decode(sizes, &read).unwrap().lent_pages().count(), 1);
+                let mut refused = image.clone();
+                assert_eq!(play(sizes, &mut refused, &mut [], &Call::ReadListing), Reply::bare(17));
+                assert_eq!(refused, encode(&Board::start(sizes)));
+                let mut short = image[1..].to_vec();
+                for text in [&mut text[..], &mut []] {
+                    assert_eq!(play(sizes, &mut short, text, &Call::ReadListing), Reply::bare(1));
+                    assert_eq!(short, image[1..]);
+                }
+            }
+        }
+    }
+
+    #[test]
+    fn writing_a_listing_leaves_the_image() {
+        for sizes in Sizes::MODELS {
+            let start = encode(&Board::start(sizes));
+            let (mut image, mut text) = (start.clone(), [b'?'; 16]);
+            assert_eq!(play(sizes, &mut image, &mut text[..13], &Call::WriteListing), Reply::bare(20));
+            assert_eq!(play(sizes, &mut image[1..], &mut text, &Call::WriteListing), Reply::bare(1));
+            assert_eq!(text, [b'?'; 16]);
+            assert_eq!(play(sizes, &mut image, &mut text, &Call::WriteListing), Reply::done(14, 0));
+            assert_eq!(&text, b"live=3\nheld=0\n??");
+            assert_eq!(image, start);
         }
     }
 

@@ -3,9 +3,11 @@
 //! ```text
 //! reference script --program COMMAND   random scripts through the script program
 //! reference library --driver COMMAND   random calls on the C functions, which a driver process serves
+//! reference listing --driver COMMAND   listings written and read by the C functions
+//! reference from --program COMMAND     random scripts that start from a listing: COMMAND --from FILE
 //! reference both --driver COMMAND --premium-driver COMMAND   the same calls on both models
-//! reference rehearse                   all three, with the model in the place of the implementation: what is reached
-//! reference answer                     the model's answers to the script on standard input
+//! reference rehearse                   all five, with the model in the place of the implementation: what is reached
+//! reference answer [--from FILE]       the model's answers to the script on standard input
 //! ```
 //!
 //! A COMMAND is a program and its words, parted by spaces.
@@ -18,7 +20,9 @@
 use reference::calls::Kind;
 use reference::command::is_there;
 use reference::drive_both::Both;
+use reference::drive_from::{self, Case};
 use reference::drive_library::{Driver, Model, Subject};
+use reference::drive_listing::Listings;
 use reference::drive_script::{self, run_program, Outcome};
 use reference::script;
 use reference::served::Served;
@@ -29,8 +33,9 @@ use std::process::ExitCode;
 use std::time::{Duration, Instant};
 
 const USAGE: &str =
-    "reference script --program COMMAND | library --driver COMMAND | both --driver COMMAND --premium-driver COMMAND \
-    | rehearse | answer  [--model entry|premium] [--seed N] [--count N] [--seconds N]";
+    "reference script --program COMMAND | library --driver COMMAND | listing --driver COMMAND | from --program COMMAND \
+    | both --driver COMMAND --premium-driver COMMAND \
+    | rehearse | answer [--from FILE]  [--model entry|premium] [--seed N] [--count N] [--seconds N]";
 const DEFAULT_SECONDS: u64 = 60;
 
 #[derive(Debug)]
@@ -40,6 +45,7 @@ struct Options {
     program: Option<String>,
     driver: Option<String>,
     premium_driver: Option<String>,
+    from: Option<String>,
     seed: u64,
     count: Option<u64>,
     seconds: Option<u64>,
@@ -54,6 +60,7 @@ impl Options {
             program: None,
             driver: None,
             premium_driver: None,
+            from: None,
             seed: 1,
             count: None,
             seconds: None,
@@ -70,6 +77,7 @@ impl Options {
                 "--program" => options.program = Some(value),
                 "--driver" => options.driver = Some(value),
                 "--premium-driver" => options.premium_driver = Some(value),
+                "--from" => options.from = Some(value),
                 "--seed" => options.seed = number()?,
                 "--count" => options.count = Some(number()?),
                 "--seconds" => options.seconds = Some(number()?),
@@ -106,22 +114,39 @@ fn main() -> ExitCode {
 fn run(options: &Options) -> Result<bool, String> {
     match options.mode.as_str() {
         "script" => {
-            let line = options.program.as_deref().ok_or("script needs --program COMMAND")?;
-            if !is_there(line) {
-                return Err(format!("{line}: no such file"));
-            }
+            let line = program(options)?;
             Ok(drive_scripts(options, &mut |input| run_program(line, input)))
         }
+        "from" => {
+            let line = program(options)?;
+            Ok(drive_from(options, &mut |case| run_from(line, case)))
+        }
         "library" => Ok(drive_calls(options, &mut served(&options.driver, "--driver")?)),
+        "listing" => Ok(drive_listings(options, &mut served(&options.driver, "--driver")?)),
         "both" => {
             let mut entry = served(&options.driver, "--driver")?;
             let mut premium = served(&options.premium_driver, "--premium-driver")?;
             Ok(drive_both(options, &mut entry, &mut premium))
         }
         "rehearse" => Ok(rehearse(options)),
-        "answer" => answer(options.sizes).map(|()| true),
+        "answer" => answer(options).map(|()| true),
         mode => Err(format!("{mode} is no mode")),
     }
+}
+
+/// The command that answers scripts.
+fn program(options: &Options) -> Result<&str, String> {
+    let line = options.program.as_deref().ok_or("the mode needs --program COMMAND")?;
+    is_there(line).then_some(line).ok_or(format!("{line}: no such file"))
+}
+
+/// Runs the program from a file with the case's listing.
+fn run_from(line: &str, case: &Case) -> Outcome {
+    let path = std::env::temp_dir().join(format!("lend-listing-{}.txt", std::process::id()));
+    std::fs::write(&path, &case.listing).expect("a file for the listing");
+    let outcome = run_program(&format!("{line} --from {}", path.display()), &case.input);
+    std::fs::remove_file(&path).expect("the file for the listing");
+    outcome
 }
 
 fn served(driver: &Option<String>, option: &str) -> Result<Served, String> {
@@ -133,15 +158,24 @@ fn rehearse(options: &Options) -> bool {
     let scripts = drive_scripts(options, &mut |input| Outcome::plain(script::answer(sizes, input)));
     let calls = drive_calls(options, &mut Model(sizes));
     let both = drive_both(options, &mut Model(Sizes::ENTRY), &mut Model(Sizes::PREMIUM));
-    scripts && calls && both
+    let listings = drive_listings(options, &mut Model(sizes));
+    let answer_from = |case: &Case| Outcome::plain(script::answer_from(sizes, &case.listing, &case.input));
+    let from = drive_from(options, &mut { answer_from });
+    scripts && calls && both && listings && from
 }
 
-/// Answers the script on standard input.
-fn answer(sizes: Sizes) -> Result<(), String> {
+/// Answers the script on standard input, from a listing if there is one.
+fn answer(options: &Options) -> Result<(), String> {
     let mut input = Vec::new();
     let limit = script::INPUT_LIMIT as u64;
     std::io::stdin().take(limit).read_to_end(&mut input).map_err(|error| error.to_string())?;
-    let output = script::answer(sizes, &input);
+    let output = match &options.from {
+        None => script::answer(options.sizes, &input),
+        Some(path) => {
+            let listing = std::fs::read(path).map_err(|error| format!("{path}: {error}"))?;
+            script::answer_from(options.sizes, &listing, &input)
+        }
+    };
     std::io::stdout().write_all(&output).map_err(|error| error.to_string())
 }
 
@@ -163,6 +197,24 @@ fn drive_calls(options: &Options, subject: &mut dyn Subject) -> bool {
     let rounds = driver.sweep_hundredths() as f64 / 100.0;
     println!("every byte of an image had every telling value {rounds:.2} times");
     conclude(driver.passed, report, driver.tally.missing_of_library())
+}
+
+fn drive_listings(options: &Options, subject: &mut dyn Subject) -> bool {
+    println!("listings, {} model, seed {}", options.sizes.name(), options.seed);
+    let mut listings = Listings::new(options.sizes, subject);
+    let report = listings.drive(options.seed, &options.limit());
+    print!("{}{}", listings.tally.table(Kind::LISTING), listings.tally.counts());
+    conclude(listings.passed, report, listings.tally.missing_of_listings())
+}
+
+fn drive_from(options: &Options, program: &mut dyn FnMut(&Case) -> Outcome) -> bool {
+    let (sizes, seed) = (options.sizes, options.seed);
+    println!("script sessions from a listing, {} model, seed {seed}", sizes.name());
+    let mut tally = Tally::new(sizes);
+    let (passed, difference) = drive_from::drive(sizes, program, seed, &options.limit(), &mut tally);
+    let report = difference.map(|found| drive_from::report(sizes, program, seed, &found));
+    print!("{}{}", tally.table(&[&[Kind::ReadListing], &Kind::SCRIPT[..]].concat()), tally.counts());
+    conclude(passed, report, drive_from::missing(&tally))
 }
 
 fn drive_both(options: &Options, entry: &mut dyn Subject, premium: &mut dyn Subject) -> bool {

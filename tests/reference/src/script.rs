@@ -1,7 +1,8 @@
 //! The script program of the model: 01, "The script program", byte for byte.
 
-use crate::board::{Board, Link};
-use crate::calls::{Call, Lending, Reply, Withdrawal, MALFORMED};
+use crate::board::Board;
+use crate::calls::{Call, Lending, Refusal, Reply, Withdrawal, MALFORMED};
+use crate::listing;
 use crate::sizes::Sizes;
 
 /// Only so many bytes are read, and are the whole input.
@@ -19,17 +20,29 @@ const ADDRESS_KEYS: &[&str] = &["space", "address", "rights"];
 
 /// What the program writes on the input, from the start board.
 pub fn answer(sizes: Sizes, input: &[u8]) -> Vec<u8> {
-    answer_with(sizes, input, |board, call| board.play(&mut [], call), |_| ())
+    answer_with(Board::start(sizes), input, |board, call| board.play(&mut [], call), |_| ())
 }
 
-/// As `answer`, with every call made by `play`; `malformed` is told of each malformed line.
+/// What the program writes where it starts from a listing, of which the first bytes are read; for a refused one its number alone.
+pub fn answer_from(sizes: Sizes, listing: &[u8], input: &[u8]) -> Vec<u8> {
+    match listing::read(sizes, first_bytes(listing)) {
+        Ok(board) => answer_with(board, input, |board, call| board.play(&mut [], call), |_| ()),
+        Err(refusal) => refused(refusal),
+    }
+}
+
+/// What is written for a refused listing.
+pub fn refused(refusal: Refusal) -> Vec<u8> {
+    format!("answer={}\n", refusal.number()).into_bytes()
+}
+
+/// As `answer`, from any board, with every call made by `play`; `malformed` is told of each malformed line.
 pub fn answer_with(
-    sizes: Sizes,
+    mut board: Board,
     input: &[u8],
     mut play: impl FnMut(&mut Board, &Call) -> Reply,
     mut malformed: impl FnMut(&[u8]),
 ) -> Vec<u8> {
-    let mut board = Board::start(sizes);
     let mut output = String::new();
     for (index, line) in lines(input).into_iter().enumerate() {
         let number = index + 1;
@@ -44,14 +57,18 @@ pub fn answer_with(
             Some(call) => output += &answer_line(number, &call, play(&mut board, &call)),
         }
     }
-    output += &listing(&board);
+    output += &listing::write(&board);
     output.into_bytes()
+}
+
+/// The bytes that are read of an input, or of a listing's file.
+pub fn first_bytes(bytes: &[u8]) -> &[u8] {
+    &bytes[..bytes.len().min(INPUT_LIMIT)]
 }
 
 /// The lines of the input: nothing after the last newline is no line.
 pub fn lines(input: &[u8]) -> Vec<&[u8]> {
-    let input = &input[..input.len().min(INPUT_LIMIT)];
-    let mut lines: Vec<&[u8]> = input.split(|&byte| byte == b'\n').collect();
+    let mut lines: Vec<&[u8]> = first_bytes(input).split(|&byte| byte == b'\n').collect();
     if lines.last().is_some_and(|last| last.is_empty()) {
         lines.pop();
     }
@@ -86,7 +103,7 @@ fn lending(n: &[u32]) -> Lending {
 }
 
 /// The numbers of `key=number` fields with exactly these keys, in this order, one space between.
-fn numbers(fields: &str, keys: &[&str]) -> Option<Vec<u32>> {
+pub fn numbers(fields: &str, keys: &[&str]) -> Option<Vec<u32>> {
     let fields: Vec<&str> = fields.split(' ').collect();
     if fields.len() != keys.len() {
         return None;
@@ -118,23 +135,6 @@ fn answer_line(number: usize, call: &Call, reply: Reply) -> String {
     }
 }
 
-/// Held pages outside space 0, and their number.
-fn listing(board: &Board) -> String {
-    let mut listing = String::new();
-    let mut held = 0;
-    for page in board.lent_pages() {
-        let slot = board.slot(page);
-        if let Link::Page(parent) = slot.link {
-            listing += &format!(
-                "space={} page={} parent={} at={} rights={}\n",
-                page.space, page.page, parent.space, parent.page, slot.rights
-            );
-            held += 1;
-        }
-    }
-    listing + &format!("held={held}\n")
-}
-
 /// The line that states a call (without newline), or nothing for a call that scripts do not have.
 pub fn write_line(call: &Call) -> Option<String> {
     let one_page = |op: &str, w: &Withdrawal| format!("op={op} space={} page={} rights={}", w.space, w.page, w.rights);
@@ -152,6 +152,7 @@ pub fn write_line(call: &Call) -> Option<String> {
         }
         Call::Start | Call::Sound | Call::Load { .. } | Call::Store { .. } => None,
         Call::UnmapRange(_) | Call::FlushRange(_) | Call::MapRange(_) | Call::GrantRange(_) => None,
+        Call::WriteListing | Call::ReadListing => None,
     }
 }
 
@@ -185,6 +186,7 @@ line=5 answer=0 address=5125 hit=0 links=3
 line=6 answer=0 emptied=0
 line=7 answer=12 address=0 hit=0 links=0
 line=8 answer=13 emptied=0
+live=7
 space=1 page=0 parent=0 at=5 rights=7
 space=2 page=3 parent=1 at=0 rights=4
 held=2
@@ -201,20 +203,21 @@ held=2
         let input =
             b"op=create space=8\nop=map from=0 page=32 to=1 at=63 rights=4\nop=translate space=1 address=65535 rights=4\n";
         let answers = |sizes| String::from_utf8(answer(sizes, input)).unwrap();
-        let refused = "line=1 answer=3 emptied=0\nline=2 answer=5 emptied=0\nline=3 answer=5 address=0 hit=0 links=0\nheld=0\n";
+        let refused = "line=1 answer=3 emptied=0\nline=2 answer=5 emptied=0\nline=3 answer=5 address=0 hit=0 links=0\n\
+            live=3\nheld=0\n";
         assert_eq!(answers(Sizes::ENTRY), refused);
         let done = "line=1 answer=0 emptied=0\nline=2 answer=0 emptied=0\nline=3 answer=0 address=33791 hit=0 links=2\n\
-            space=1 page=63 parent=0 at=32 rights=4\nheld=1\n";
+            live=259\nspace=1 page=63 parent=0 at=32 rights=4\nheld=1\n";
         assert_eq!(answers(Sizes::PREMIUM), done);
     }
 
     #[test]
     fn empty_input_and_empty_lines() {
-        assert_eq!(answers(b""), "held=0\n");
-        assert_eq!(answers(b"\n"), "line=1 answer=16\nheld=0\n");
-        assert_eq!(answers(b"\n\n"), "line=1 answer=16\nline=2 answer=16\nheld=0\n");
-        assert_eq!(answers(b"#"), "held=0\n");
-        assert_eq!(answers(b"x"), "line=1 answer=16\nheld=0\n");
+        assert_eq!(answers(b""), "live=3\nheld=0\n");
+        assert_eq!(answers(b"\n"), "line=1 answer=16\nlive=3\nheld=0\n");
+        assert_eq!(answers(b"\n\n"), "line=1 answer=16\nline=2 answer=16\nlive=3\nheld=0\n");
+        assert_eq!(answers(b"#"), "live=3\nheld=0\n");
+        assert_eq!(answers(b"x"), "line=1 answer=16\nlive=3\nheld=0\n");
     }
 
     #[test]
@@ -266,10 +269,24 @@ held=2
     fn only_the_first_bytes_are_read() {
         let fill = |length: usize| [vec![b'#'; length - 1], vec![b'\n']].concat();
         let cut = [fill(INPUT_LIMIT - 17), b"op=create space=23\n".to_vec()].concat();
-        assert_eq!(answers(&cut), "line=2 answer=0 emptied=0\nheld=0\n", "cut after space=2");
+        assert_eq!(answers(&cut), "line=2 answer=0 emptied=0\nlive=7\nheld=0\n", "cut after space=2");
         let past = [fill(INPUT_LIMIT), b"op=create space=2\n".to_vec()].concat();
-        assert_eq!(answers(&past), "held=0\n");
+        assert_eq!(answers(&past), "live=3\nheld=0\n");
         let one = [fill(INPUT_LIMIT - 1), b"op=create space=2\n".to_vec()].concat();
-        assert_eq!(answers(&one), "line=2 answer=16\nheld=0\n");
+        assert_eq!(answers(&one), "line=2 answer=16\nlive=3\nheld=0\n");
+    }
+    #[test]
+    fn a_script_starts_from_a_listing() {
+        let from = |listing: &str| {
+            let [entry, premium] = Sizes::MODELS.map(|sizes| answer_from(sizes, listing.as_bytes(), b"op=create space=2\n"));
+            assert_eq!(entry, premium);
+            String::from_utf8(entry).unwrap()
+        };
+        let page = "space=1 page=0 parent=0 at=5 rights=7\n";
+        let done = format!("line=1 answer=0 emptied=0\nlive=15\n{page}held=1\n");
+        assert_eq!(from(&format!("live=11\n{page}held=1\n")), done);
+        assert_eq!(from(&format!("live=11\n{page}held=2\n")), "answer=18\n");
+        assert_eq!(from(&format!("live=9\n{page}held=1\n")), "answer=1\n");
+        assert_eq!(from(""), "answer=17\n");
     }
 }

@@ -91,6 +91,8 @@ fn spelled(call: &Call) -> (u8, [u32; 7], u8) {
         Call::FlushRange(asked) => (b'F', withdrawn(&asked), 0),
         Call::MapRange(asked) => (b'M', lent(&asked), 0),
         Call::GrantRange(asked) => (b'G', lent(&asked), 0),
+        Call::WriteListing => (b'W', [0; 7], 0),
+        Call::ReadListing => (b'R', [0; 7], 0),
     }
 }
 

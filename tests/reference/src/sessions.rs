@@ -489,6 +489,8 @@ impl Loose<'_> {
             Kind::GrantRange => Call::GrantRange(self.range_lending(Way::Grant)),
             Kind::Start => Call::Start,
             Kind::Sound => Call::Sound,
+            Kind::WriteListing => Call::WriteListing,
+            Kind::ReadListing => Call::ReadListing,
         }
     }
 }
@@ -616,8 +618,9 @@ pub struct Session {
 }
 
 impl Session {
-    fn new(sizes: Sizes) -> Session {
-        Session { bytes: Vec::new(), flaws: Vec::new(), board: Board::start(sizes), composer: Composer::new(&Kind::SCRIPT) }
+    /// A script that starts from this board.
+    fn new(board: Board) -> Session {
+        Session { bytes: Vec::new(), flaws: Vec::new(), board, composer: Composer::new(&Kind::SCRIPT) }
     }
 
     fn push_line(&mut self, line: &[u8]) {
@@ -713,9 +716,9 @@ impl Session {
     }
 }
 
-/// A random script.
-pub fn random_session(random: &mut Random, sizes: Sizes) -> Session {
-    let mut session = Session::new(sizes);
+/// A random script that starts from this board.
+pub fn random_session(random: &mut Random, board: Board) -> Session {
+    let mut session = Session::new(board);
     match random.below(40) {
         0..=2 => {
             let lines = random.below(4);
@@ -887,7 +890,7 @@ mod tests {
     fn a_filled_board_is_full() {
         for (sizes, seeds) in [(Sizes::ENTRY, 20), (Sizes::PREMIUM, 3)] {
             for seed in 0..seeds {
-                let mut session = Session::new(sizes);
+                let mut session = Session::new(Board::start(sizes));
                 session.fill_board(&mut Random::new(seed));
                 assert_eq!(session.board.lent_pages().count(), (sizes.spaces - 1) * sizes.pages);
                 assert!(session.board.sound());
@@ -900,7 +903,7 @@ mod tests {
     fn sessions_over_the_limit_are_cut_where_a_call_is_left() {
         let mut accepted_cut = 0;
         for seed in 0..100 {
-            let mut session = Session::new(Sizes::ENTRY);
+            let mut session = Session::new(Board::start(Sizes::ENTRY));
             session.over_limit(&mut Random::new(seed));
             assert!(session.bytes.len() > INPUT_LIMIT);
             let last = *script::lines(&session.bytes).last().unwrap();
@@ -912,7 +915,7 @@ mod tests {
 
     #[test]
     fn the_same_seed_gives_the_same_session() {
-        let make = |part| random_session(&mut Random::of_part(9, part), Sizes::ENTRY).bytes;
+        let make = |part| random_session(&mut Random::of_part(9, part), Board::start(Sizes::ENTRY)).bytes;
         assert_eq!(make(3), make(3));
         assert_ne!(make(3), make(4));
     }

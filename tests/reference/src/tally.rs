@@ -59,7 +59,7 @@ impl Tally {
         self.count_corners(Corner::reached(self.sizes, call, reply));
     }
 
-    fn count_corners(&mut self, reached: Vec<Corner>) {
+    pub fn count_corners(&mut self, reached: Vec<Corner>) {
         for corner in reached {
             *self.corners.entry(corner).or_default() += 1;
         }
@@ -127,6 +127,25 @@ impl Tally {
         missing
     }
 
+    /// Of the calls that write and read listings.
+    pub fn missing_of_listings(&self) -> Vec<String> {
+        let mut missing = self.missing(Kind::LISTING, |_| true);
+        missing.extend(self.missing_corners(&Corner::OF_LISTINGS));
+        missing
+    }
+
+    /// Of scripts that start from a listing: each answer to one, and some line after a good one.
+    pub fn missing_of_from(&self) -> Vec<String> {
+        let mut missing = self.missing(&[Kind::ReadListing], |_| true);
+        missing.extend(self.missing(&Kind::SCRIPT, |number| number == 0));
+        missing
+    }
+
+    /// Things counted by these names.
+    pub fn missing_named(&self, names: &[&str]) -> Vec<String> {
+        names.iter().filter(|name| !self.named.contains_key(**name)).map(|name| name.to_string()).collect()
+    }
+
     fn missing(&self, kinds: &[Kind], possible: impl Fn(u32) -> bool) -> Vec<String> {
         let mut missing = Vec::new();
         for &kind in kinds {
@@ -191,9 +210,14 @@ impl Tally {
         if no + yes > 0 {
             text += &format!("sound answered yes {yes} times, no {no} times\n");
         }
+        text + &self.counts()
+    }
+
+    /// The corners and the named things, each with its count.
+    pub fn counts(&self) -> String {
         let corners = self.corners.iter().map(|(corner, count)| format!("{corner:?} {count}"));
         let named = self.named.iter().map(|(name, count)| format!("{name} {count}"));
-        text + &corners.collect::<Vec<_>>().join(", ") + "\n" + &named.collect::<Vec<_>>().join(", ") + "\n"
+        corners.collect::<Vec<_>>().join(", ") + "\n" + &named.collect::<Vec<_>>().join(", ") + "\n"
     }
 }
 
