@@ -59,11 +59,7 @@ unfolding less within
 less-whole r d hr hd w =
     eqb→eq r (less r d) (implied (within r (less r d)) (eqb r (less r d)) (each2 (λ a b. implies (within a (less a b)) (eqb a (less a b))) tt r d hr hd) w)
 
--- of what was taken nothing is left
-pub less-apart : (r d : ℕ) → r < 8 → d < 8 → bitAnd (less r d) d ≡ 0
-unfolding less
-less-apart r d hr hd = eqb→eq (bitAnd (less r d) d) 0 (each2 (λ a b. eqb (bitAnd (less a b) b) 0) tt r d hr hd)
-
+-- two withdrawals are one, of all that either takes
 pub less-less : (r d e : ℕ) → r < 8 → d < 8 → e < 8 → less (less r d) e ≡ less r (join d e)
 unfolding less join
 less-less r d e hr hd he = eqb→eq (less (less r d) e) (less r (join d e)) (each3 (λ a b c. eqb (less (less a b) c) (less a (join b c))) tt r d e hr hd he)

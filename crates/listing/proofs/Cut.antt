@@ -81,7 +81,7 @@ pub plain-entry : (key : List ℕ) (n : ℕ) → T (plain key) → T (plain (ent
 unfolding entry decimal
 plain-entry key n h = plain-more key (decimalIn 10 n) h (plain-digits 10 n)
 
-pub cut-line : (l rest : List ℕ) → T (plain l) → lines (l ++ newline ∷ rest) ≡ l ∷ lines rest
+cut-line : (l rest : List ℕ) → T (plain l) → lines (l ++ newline ∷ rest) ≡ l ∷ lines rest
 unfolding lines plain
 cut-line [] rest h = refl
 cut-line (b ∷ l) rest h =

@@ -22,13 +22,13 @@ use Rattle.listing.proofs.Said.{Readable, said-of, said-back}
 abbrev pub orderTest : Sizes → Content → Bool
 orderTest z c = risingAbove z 0 (c .rows) && eqb (length (c .rows)) (c .held)
 
-pub test-ordered : (z : Sizes) (c : Content) → T (orderTest z c) → Ordered z c
+test-ordered : (z : Sizes) (c : Content) → T (orderTest z c) → Ordered z c
 test-ordered z c h = record {
   rising = and-l (risingAbove z 0 (c .rows)) (eqb (length (c .rows)) (c .held)) h;
   all-counted = eqb→eq (length (c .rows)) (c .held) (and-r (risingAbove z 0 (c .rows)) (eqb (length (c .rows)) (c .held)) h);
 }
 
-pub ordered-test : (z : Sizes) (c : Content) → Ordered z c → T (orderTest z c)
+ordered-test : (z : Sizes) (c : Content) → Ordered z c → T (orderTest z c)
 ordered-test z c h =
     and-i (risingAbove z 0 (c .rows)) (eqb (length (c .rows)) (c .held)) (h .rising) (true-is _ (eq-eqb (length (c .rows)) (c .held) (h .all-counted)))
 

@@ -34,7 +34,7 @@ use Rattle.listing_laws.proofs.Answers.{reads, taken}
 use Rattle.listing_laws.proofs.Rows.{parentSpace, parentPage, rowAt, rowsFrom, pages-rows, rows-few, rows-counted, key-of-page, placed-length, rows-back}
 
 -- space 0 and at least one more
-pub pool-within : (z : Sizes) → Readable z → z .pages ≤ slotCount z
+pool-within : (z : Sizes) → Readable z → z .pages ≤ slotCount z
 pool-within z small = let m = mul-le-mul-right (z .pages) (small .two-spaces) in omega arith
 
 -- the rows of all pages outside space 0
@@ -168,7 +168,7 @@ cleared-place n i = go (decLt i n)
     go (no h) = List·getD-eq-default (replicate n emptyPlace) emptyPlace {n = i} (omega (arith, length-replicate n emptyPlace))
 
 -- a sound board with its cache emptied is sound
-pub cleared-sound : (z : Sizes) → 1 ≤ z .places → (b : Tables) → Sound z b → Sound z (cleared z b)
+cleared-sound : (z : Sizes) → 1 ≤ z .places → (b : Tables) → Sound z b → Sound z (cleared z b)
 cleared-sound z one b w = record {
   shape = record { slots-long = w .shape .slots-long; live-long = w .shape .live-long; places-long = length-replicate (z .places) emptyPlace };
   pages = w .pages;

@@ -89,7 +89,7 @@ page-of-key z s p h =
     omega arith
 
 -- the row of a page that keeps the row's slot
-pub row-of-slot : (z : Sizes) (r : Row) → RowFits z r → rowAt z (rowKey z r) (rowSlot r) ≡ r
+row-of-slot : (z : Sizes) (r : Row) → RowFits z r → rowAt z (rowKey z r) (rowSlot r) ≡ r
 row-of-slot z r h =
     let s = space-of-key z (r .space) (r .page) (h .page-to) in
     let p = page-of-key z (r .space) (r .page) (h .page-to) in
@@ -102,7 +102,7 @@ placed-length z slots [] = refl
 placed-length z slots (r ∷ rest) = placed-length z (set slots (rowKey z r) (rowSlot r)) rest ∙ length-set slots (rowKey z r) (rowSlot r)
 
 -- rows above m leave what stands up to m
-pub placed-before : (z : Sizes) (m : ℕ) (slots : List Slot) (rows : List Row) (j : ℕ) → T (risingAbove z m rows) → j ≤ m
+placed-before : (z : Sizes) (m : ℕ) (slots : List Slot) (rows : List Row) (j : ℕ) → T (risingAbove z m rows) → j ≤ m
     → slotAt (placed z slots rows) j ≡ slotAt slots j
 unfolding placed risingAbove
 placed-before z m slots [] j h l = refl

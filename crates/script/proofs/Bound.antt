@@ -108,16 +108,16 @@ answers-length z n st (l ∷ ls) h =
     rw length-append
     (omega (arith, turn-length z n st l (omega arith), answers-length z (n + 1) (turn z st l .state) ls (omega arith)))
 
-pub output-length : (z : Sizes) (b : Tables) (s : List ℕ) → length s ≤ inputLimit → length (outputOf z b s) ≤ outputBound z (length s)
+output-length : (z : Sizes) (b : Tables) (s : List ℕ) → length s ≤ inputLimit → length (outputOf z b s) ≤ outputBound z (length s)
 unfolding outputOf outputBound
 output-length z b s h = omega (arith, answers-length z 1 (alone b) (lines s) (omega (arith, lines-few s)), lines-weight s)
 
 -- ── the bound of every input ─────────────────────────────────────────────
 -- no more than the limit is read
-pub part-short : (s : List ℕ) → length (take inputLimit s) ≤ inputLimit
+part-short : (s : List ℕ) → length (take inputLimit s) ≤ inputLimit
 part-short s = rw length-take (min-le-left inputLimit (length s))
 
-pub first-length : (z : Sizes) (b : Tables) (s : List ℕ) → length (outputOf z b (take inputLimit s)) ≤ enough z s
+first-length : (z : Sizes) (b : Tables) (s : List ℕ) → length (outputOf z b (take inputLimit s)) ≤ enough z s
 first-length z b s = output-length z b (take inputLimit s) (part-short s)
 
 pub script-length : (z : Sizes) (s : List ℕ) → length (scriptOutput z s) ≤ enough z s
@@ -132,7 +132,7 @@ least : (z : Sizes) {m : ℕ} (n : ℕ) → m ≤ 32 → m ≤ outputBound z n
 unfolding outputBound
 least z n h = omega arith
 
-pub by-length : (z : Sizes) (a : Answer) (s : List ℕ) → length (outputBy z a s) ≤ enough z s
+by-length : (z : Sizes) (a : Answer) (s : List ℕ) → length (outputBy z a s) ≤ enough z s
 unfolding outputBy
 by-length z a s = go (eqb (a .number) 0)
   where

@@ -72,7 +72,7 @@ five-digits : (n : ℕ) → n ≤ mostRead → length (decimal n) ≤ 5
 five-digits n h = decimal-shorter 4 n (omega arith)
 
 -- no well-formed line has more than 61 bytes
-pub spell-longest : (q : Request) → WellFormed q → length (spell q) ≤ 61
+spell-longest : (q : Request) → WellFormed q → length (spell q) ≤ 61
 unfolding spell entry
 spell-longest (Create s) h = simp length-append (omega (arith, five-digits s h))
 spell-longest (Delete s) h = simp length-append (omega (arith, five-digits s h))
@@ -175,7 +175,7 @@ within-limit : (q : Request) → WellFormed q → ltb 80 (length (spell q)) ≡ 
 within-limit q h = let l = spell-longest q h in le-ltb 80 (length (spell q)) (omega arith)
 
 -- a request that is spelt is read
-pub request-read : (q : Request) → WellFormed q → requestOf (spell q) ≡ q
+request-read : (q : Request) → WellFormed q → requestOf (spell q) ≡ q
 unfolding requestOf spell entry
 request-read (Create s) h = rw (within-limit (Create s) h) (create-read s h _)
 request-read (Delete s) h =
