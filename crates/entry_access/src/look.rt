@@ -12,7 +12,8 @@ ghost use Rattle.entry.specs.Sizes.{sizes};
 ghost use Rattle.entry.specs.Board.{tables};
 ghost use Rattle.entry_access.specs.Answers.{seen};
 
-// What a look at a page finds: the next board, the page's frame, how many links lead to it, and whether the page was in the cache.
+// What a look at a page finds: the next board, the page's frame, the links that were followed to it, and whether the page was in the
+// cache.
 pub struct Seen {
     pub board: Board,
     pub frame: u8,
@@ -20,14 +21,10 @@ pub struct Seen {
     pub hit: bool,
 }
 
-// A hit takes the frame from the cache and changes nothing; a miss puts the page's entry in. The cache does not know how far a page
-// is from its frame, so the page's line is followed for both.
+// A hit takes the frame from the cache, follows no link and changes nothing; a miss follows the page's line and puts its entry in.
 pub fn look(mut b: Board, space: u8, page: u8) -> Seen
     ensures { λ r. ⌜ seen r ≡ lookAt sizes (tables b) space page ⌝ }
 {
-    let slots = b.slots;
-    let k = key(space, page);
-    let end = lookup(slots, k);
     let cache = b.cache;
     let found = cache.find(space, page);
     if found.hit {
@@ -35,10 +32,13 @@ pub fn look(mut b: Board, space: u8, page: u8) -> Seen
         return Seen {
             board: b,
             frame: place.frame,
-            links: end.links,
+            links: 0,
             hit: true,
         };
     }
+    let slots = b.slots;
+    let k = key(space, page);
+    let end = lookup(slots, k);
     let frame = end.frame;
     let links = end.links;
     let slot = slots[inside(k)];

@@ -33,7 +33,7 @@ use Rattle.lend_laws.proofs.Accepted.{accepted, refused, tested}
 use Rattle.lend_lending.proofs.Frames.{frame-held}
 use Rattle.lend_lending.proofs.Insert.{hit-place, page-in, ReadFine, translate-fine, load-fine, store-fine}
 use Rattle.lend_code.specs.Inner.{upOf, insideOf, frameIn, linkIn}
-use Rattle.lend_code.specs.Access.{placeAfter, accessNumber, Look, lookIf, lookAt, byteAt}
+use Rattle.lend_code.specs.Access.{placeAfter, accessNumber, Look, lookIf, lookAt, countedOf, byteAt}
 use Rattle.lend_code.proofs.Fits.{inside-key}
 
 -- ── the walk to a frame ──────────────────────────────────────────────────
@@ -209,25 +209,34 @@ pub record Accessible (z : Sizes) (b : Tables) (space address : ℕ) : Type 0 wh
       ≡ record {
         board = looked z b space address;
         frame = frameOf z (tableOf b) (pageAt z space address);
-        links = linksOf z (tableOf b) (pageAt z space address);
+        links = cond (hit b space address) 0 (linksOf z (tableOf b) (pageAt z space address));
         hit = hit b space address;
       }
   pub frame-in : {l : Look} → l ≡ lookAt z b space (addressPage address) → l .frame < z .pages
 
 -- what the code makes of a search of the cache, piece by piece: found and q are what it handed back
 module _ (z : Sizes) (b : Tables) (space page : ℕ) (found : Bool) (is : found ≡ cached space page (b .places)) where
-  module _ (k fr over : ℕ) (ek : k ≡ key z space page) (r : Reached z (b .slots) k fr over) where
-    pub look-hit : (q : Place) → q ≡ placeAt (b .places) (placeFor space page (b .places)) → found ≡ true
-        → _≡_ {A = Look} (record { board = b; frame = q .frame; links = over; hit = true }) (lookAt z b space page)
-    unfolding lookAt
-    look-hit q eq e = rw (eq, r .1, ek, sym is ∙ e)
+  pub look-hit : (q : Place) → q ≡ placeAt (b .places) (placeFor space page (b .places)) → found ≡ true
+      → _≡_ {A = Look} (record { board = b; frame = q .frame; links = 0; hit = true }) (lookAt z b space page)
+  unfolding lookAt
+  look-hit q eq e = rw (eq, sym is ∙ e)
 
-    pub look-miss : (at : ℕ) → at ≡ insideOf z k → found ≡ false
-        → _≡_ {A = Look}
-        (record { board = withEntry b (record { space = space; page = page; frame = fr; rights = tableOf b at .rights }); frame = fr; links = over; hit = false })
-        (lookAt z b space page)
-    unfolding lookAt
-    look-miss at ea e = rw (r .0, r .1, ea, ek, sym is ∙ e)
+  pub look-miss : (k fr over at : ℕ) → k ≡ key z space page → Reached z (b .slots) k fr over → at ≡ insideOf z k → found ≡ false
+      → _≡_ {A = Look}
+      (record { board = withEntry b (record { space = space; page = page; frame = fr; rights = tableOf b at .rights }); frame = fr; links = over; hit = false })
+      (lookAt z b space page)
+  unfolding lookAt
+  look-miss k fr over at ek r ea e = rw (r .0, r .1, ea, ek, sym is ∙ e)
+
+-- how the links are counted, by whether the page was found: the code's two cases
+module _ (z : Sizes) (b : List Slot) (space page : ℕ) (found : Bool) (followed : ℕ) where
+  pub counted-hit : (k fr over : ℕ) → k ≡ key z space page → Reached z b k fr over → found ≡ true → over ≡ countedOf z b space page found followed
+  unfolding countedOf
+  counted-hit k fr over ek r e = rw (e, r .1, ek)
+
+  pub counted-miss : found ≡ false → followed ≡ countedOf z b space page found followed
+  unfolding countedOf
+  counted-miss e = rw e
 
 -- on a sound board, at a page that is held, the frame is the page's and the board is that of the rules
 module _ (z : Sizes) (b : Tables) (sound : Sound z b) (space address rights : ℕ) (fine : ReadFine z b space address rights) where
@@ -235,7 +244,7 @@ module _ (z : Sizes) (b : Tables) (sound : Sound z b) (space address rights : �
       ≡ record {
         board = looked z b space address;
         frame = frameOf z (tableOf b) (pageAt z space address);
-        links = linksOf z (tableOf b) (pageAt z space address);
+        links = cond (hit b space address) 0 (linksOf z (tableOf b) (pageAt z space address));
         hit = hit b space address;
       }
   unfolding lookAt looked hit
@@ -248,13 +257,13 @@ module _ (z : Sizes) (b : Tables) (sound : Sound z b) (space address rights : �
           ≡ record {
             board = cond t b (withEntry b (entryOf z b space (addressPage address)));
             frame = frameOf z (tableOf b) (pageAt z space address);
-            links = linksOf z (tableOf b) (pageAt z space address);
+            links = cond t 0 (linksOf z (tableOf b) (pageAt z space address));
             hit = t;
           }
       go true e = λ i. record {
         board = b;
         frame = hit-place z b sound space (addressPage address) (true-is _ e) .0 i;
-        links = linksOf z (tableOf b) (pageAt z space address);
+        links = 0;
         hit = true;
       }
       go false e = λ i. record {
@@ -318,11 +327,25 @@ module _ (z : Sizes) (b : Tables) (space address rights n : ℕ) (is : n ≡ acc
     pub translate-shows : Accessible z b space address
     translate-shows = shown-is z (alone b) (Translate space address rights) n translated done space address rights (translate-fine z (alone b) space address rights)
 
-    pub translate-done : (l : Look) (at : ℕ) → l ≡ lookAt z b space (addressPage address) → at ≡ byteAt (l .frame) address
-        → _≡_ {A = Outcome} (record { reply = record { number = 0; emptied = 0; address = at; hit = l .hit; links = l .links; byte = 0 }; state = alone (l .board) })
-        (step z (alone b) (Translate space address rights))
-    unfolding report boardAfter memoryAfter physical linksTo
-    translate-done l at el ea = rw (ea, el ∙ translate-shows .look-right) (accepted-is z (alone b) (Translate space address rights) n translated done)
+    module _ (l : Look) (el : l ≡ lookAt z b space (addressPage address)) where
+      -- the links that are counted are the page's, whether it was in the cache or not
+      counted-are : countedOf z (b .slots) space (addressPage address) (l .hit) (l .links) ≡ linksOf z (tableOf b) (pageAt z space address)
+      unfolding countedOf
+      counted-are =
+          ap (λ (k : Look). countedOf z (b .slots) space (addressPage address) (k .hit) (k .links)) (el ∙ translate-shows .look-right)
+          ∙ go (hit b space address)
+        where
+          go : (t : Bool) → countedOf z (b .slots) space (addressPage address) t (cond t 0 (linksOf z (tableOf b) (pageAt z space address)))
+              ≡ linksOf z (tableOf b) (pageAt z space address)
+          go true = refl
+          go false = refl
+
+      pub translate-done : (at far : ℕ) → at ≡ byteAt (l .frame) address → far ≡ countedOf z (b .slots) space (addressPage address) (l .hit) (l .links)
+          → _≡_ {A = Outcome} (record { reply = record { number = 0; emptied = 0; address = at; hit = l .hit; links = far; byte = 0 }; state = alone (l .board) })
+          (step z (alone b) (Translate space address rights))
+      unfolding report boardAfter memoryAfter physical linksTo
+      translate-done at far ea ef =
+          rw (ea, ef ∙ counted-are, el ∙ translate-shows .look-right) (accepted-is z (alone b) (Translate space address rights) n translated done)
 
 module _ (z : Sizes) (st : State) (space address n : ℕ) (is : n ≡ accessNumber z (st .board) (memoryFits z st) space address readRight) where
   loaded : n ≡ number z st (Load space address)

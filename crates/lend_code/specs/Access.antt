@@ -1,11 +1,13 @@
 -- What the inner functions of translate, load and store compute. Only their contracts speak of these; no caller has to read them.
 use Prim.Native.Nat.{ℕ, _+_, _*_, _%_}
 use mathlib.Core.Bool.{Bool, not, cond}
+use mathlib.Core.List.{List}
 use lib.Dec.{ltb}
 use Rattle.lend.specs.declared.Place.{Place}
+use Rattle.lend.specs.declared.Slot.{Slot}
 use Rattle.lend.specs.Sizes.{Sizes, pageBytes, key}
 use Rattle.lend.specs.Rights.{within}
-use Rattle.lend.specs.Slots.{held}
+use Rattle.lend.specs.Slots.{held, slotAt}
 use Rattle.lend.specs.Tables.{Tables, tableOf}
 use Rattle.lend.specs.Line.{frameOf, linksOf}
 use Rattle.lend.specs.Cache.{placeAt, placeFor, cached}
@@ -31,7 +33,7 @@ accessNumber z b fits space address rights =
     (cond (not (held (tableOf b (insideOf z (pageAt z space address))))) 11
     (cond (not (within rights (tableOf b (insideOf z (pageAt z space address)) .rights))) 12 0)))))))
 
--- what a look at a page finds: the next board, the page's frame, how many links lead to it, and whether the page was in the cache
+-- what a look at a page finds: the next board, the page's frame, the links that were followed to it, and whether the page was in the cache
 pub record Look : Type 0 where
   pub board : Tables
   pub frame : ℕ
@@ -47,17 +49,21 @@ newEntry z b space page = record {
   rights = tableOf b (insideOf z (key z space page)) .rights;
 }
 
--- a hit takes the frame from the cache and changes nothing; a miss has it from the line and puts the entry in; the links are the line's
+-- a hit takes the frame from the cache, follows no link and changes nothing; a miss follows the line and puts the entry in
 abbrev pub lookIf : Bool → Sizes → Tables → ℕ → ℕ → Look
 lookIf found z b space page = record {
   board = cond found b (withEntry b (newEntry z b space page));
   frame = cond found (placeAt (b .places) (placeFor space page (b .places)) .frame) (frameOf z (tableOf b) (key z space page));
-  links = linksOf z (tableOf b) (key z space page);
+  links = cond found 0 (linksOf z (tableOf b) (key z space page));
   hit = found;
 }
 
 unfoldable pub lookAt : Sizes → Tables → ℕ → ℕ → Look
 lookAt z b space page = lookIf (cached space page (b .places)) z b space page
+
+-- the links of a page: those that a miss has followed, and for a hit the line's own
+unfoldable pub countedOf : Sizes → List Slot → ℕ → ℕ → Bool → ℕ → ℕ
+countedOf z b space page hit followed = cond hit (linksOf z (slotAt b) (key z space page)) followed
 
 -- the byte of a frame that is as far in as the address is in its page
 abbrev pub byteAt : ℕ → ℕ → ℕ

@@ -21,10 +21,10 @@ shown : (c : tie.Else1) → Accessible sizes (tables (c .before .before .args .b
 shown c = translate-shows sizes _ _ _ _ _ (c .before .access-number .ensures) (c .if1 .left)
 
 cast-look : tie.Need-cast-look
-cast-look c = omega (arith, shown c .space-in)
+cast-look c = omega (arith, shown (c .before) .space-in)
 
 cast-look-2 : tie.Need-cast-look-2
-cast-look-2 c = omega (arith, shown c .page-in)
+cast-look-2 c = omega (arith, shown (c .before) .page-in)
 
 look-requires : tie.Need-look-requires
 look-requires c κs = search needs
@@ -32,17 +32,27 @@ look-requires c κs = search needs
 byte-at-requires : tie.Need-byte-at-requires
 byte-at-requires c κs = search needs
 
-cast-t15 : tie.Need-cast-t15
-cast-t15 c = search needs
+cast-counted : tie.Need-cast-counted
+cast-counted c = omega (arith, shown (c .before .before .before .before) .space-in)
 
-cast-t16 : tie.Need-cast-t16
-cast-t16 c = search needs
+cast-counted-2 : tie.Need-cast-counted-2
+cast-counted-2 c = omega (arith, shown (c .before .before .before .before) .page-in)
+
+counted-requires : tie.Need-counted-requires
+counted-requires c κs = search needs
+
+cast-t17 : tie.Need-cast-t17
+cast-t17 c = search needs
+
+cast-t18 : tie.Need-cast-t18
+cast-t18 c = search needs
 
 returns-2 : tie.Need-returns-2
 returns-2 c =
     let at-look = c .before .before .before in
-    let accepted = at-look .before in
-    translate-done sizes _ _ _ _ _ (accepted .before .access-number .ensures) (accepted .if1 .left) (seen (at-look .look .result)) (c .before .byte-at .result) (at-look .look .ensures) (c .before .byte-at .ensures)
+    let accepted = at-look .before .before in
+    translate-done sizes _ _ _ _ _ (accepted .before .access-number .ensures) (accepted .if1 .left) (seen (at-look .look .result)) (at-look .look .ensures)
+    (c .before .byte-at .result) (c .counted .result) (c .before .byte-at .ensures) (c .counted .ensures)
 
 pub translate-spec : {M : Type 1} → statement M
 translate-spec =
@@ -54,6 +64,9 @@ translate-spec =
     cast-look-2
     look-requires
     byte-at-requires
-    cast-t15
-    cast-t16
+    cast-counted
+    cast-counted-2
+    counted-requires
+    cast-t17
+    cast-t18
     returns-2)
