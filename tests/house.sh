@@ -86,6 +86,15 @@ room = 1024
 F
 refused rules.py "Inner.antt:3: a size as a bare number"
 
+# ---- rules.py: wrong programs
+copy
+rm "$work/text/crates/entry/must-fail/every_call_refused.control"
+refused rules.py "every_call_refused.edit:1: an edit with neither a control nor a reason why there is none"
+
+copy
+sed -i 's/every_call_refused/no_call_done/' "$work/text/docs/PROOF.md"
+refused rules.py "every_call_refused.edit:1: an edit that docs/PROOF.md does not name"
+
 # ---- contracts.py: what a clause may say
 with entry/src/sets.rt <<'F'
 pub fn hollow(x: u8) -> u8 {
