@@ -26,7 +26,7 @@ enum lend_number {
     LEND_MEMORY = 2,           /* the memory has the wrong length */
     LEND_SPACE = 3,            /* a space number past the last space */
     LEND_NOT_LIVE = 4,         /* a named space is not live */
-    LEND_PAGE = 5,             /* a page number past the last page, or an address past the last byte */
+    LEND_PAGE = 5,             /* a page or frame number past the last one, or an address past the last byte */
     LEND_RIGHTS = 6,           /* rights are 0 or above 7 */
     LEND_RANGE = 7,            /* a range is invalid */
     LEND_RANGES_DIFFER = 8,    /* two ranges differ in their number of pages */
@@ -58,7 +58,7 @@ enum lend_right { LEND_EXECUTE = 1, LEND_WRITE = 2, LEND_READ = 4, LEND_ALL = 7 
  *   pages in each, frames       32         64    .._PAGES
  *   places of the cache          8         16    .._PLACES
  *   bytes of memory         32,768     65,536    .._MEMORY
- *   bytes of an image        1,065      4,177    .._IMAGE
+ *   bytes of an image        1,321      4,689    .._IMAGE
  *
  * The image of a board, byte by byte:
  *
@@ -69,6 +69,10 @@ enum lend_right { LEND_EXECUTE = 1, LEND_WRITE = 2, LEND_READ = 4, LEND_ALL = 7 
  *   live          one byte for each space, from LIVE: 0 or 1
  *   cache place   4 bytes for each, from CACHE: space, page, frame, rights; all 0 when it is empty
  *   next place    one byte, at NEXT
+ *   summary (f)   8 bytes at SUMMARY + 8 * f, for frame f: four counts of two bytes each, the low byte first: how many held pages
+ *                   outside space 0 end there, and how many of these have the right to read, to write and to execute
+ *
+ * Every call keeps the summary right, and a board with a count that disagrees with its pages is not sound.
  *
  * A kind above 2, a live byte above 1 and an unused byte that is not 0 are no board's image. Later fields are appended.
  *
@@ -93,7 +97,8 @@ enum lend_right { LEND_EXECUTE = 1, LEND_WRITE = 2, LEND_READ = 4, LEND_ALL = 7 
 #define LEND_ENTRY_LIVE (LEND_ENTRY_SLOT + 4 * LEND_ENTRY_SPACES * LEND_ENTRY_PAGES)
 #define LEND_ENTRY_CACHE (LEND_ENTRY_LIVE + LEND_ENTRY_SPACES)
 #define LEND_ENTRY_NEXT (LEND_ENTRY_CACHE + 4 * LEND_ENTRY_PLACES)
-#define LEND_ENTRY_IMAGE (LEND_ENTRY_NEXT + 1)
+#define LEND_ENTRY_SUMMARY (LEND_ENTRY_NEXT + 1)
+#define LEND_ENTRY_IMAGE (LEND_ENTRY_SUMMARY + 8 * LEND_ENTRY_PAGES)
 
 /* Writes the start board over any bytes of the right length. Every out field is 0. */
 uint32_t lend_entry_start(uint8_t *image, size_t image_length, uint32_t out[4]);
@@ -133,6 +138,11 @@ uint32_t lend_entry_load(uint8_t *image, size_t image_length, uint8_t *memory, s
 uint32_t lend_entry_store(uint8_t *image, size_t image_length, uint8_t *memory, size_t memory_length, uint32_t space,
     uint32_t address, uint8_t value, uint32_t out[4]);
 
+/* Who uses a frame, as the summary has it. out[0]: how many held pages outside space 0 end there. out[1], out[2] and out[3]: how many
+ * of these have the right to read, to write and to execute. LEND_UNSOUND, then LEND_PAGE for a frame past the last one; the image is
+ * only read. */
+uint32_t lend_entry_frame(uint8_t *image, size_t image_length, uint32_t frame, uint32_t out[4]);
+
 /* Over ranges. out[0]: how many pages were done. out[1]: the offset of the first refused page, LEND_ENTRY_PAGES where there is none.
  * out[2]: how many pages were held before the whole call and are empty after it. */
 uint32_t lend_entry_unmap_range(uint8_t *image, size_t image_length, uint32_t space, uint32_t base, uint32_t size,
@@ -155,7 +165,8 @@ uint32_t lend_entry_grant_range(uint8_t *image, size_t image_length, uint32_t fr
 #define LEND_PREMIUM_LIVE (LEND_PREMIUM_SLOT + 4 * LEND_PREMIUM_SPACES * LEND_PREMIUM_PAGES)
 #define LEND_PREMIUM_CACHE (LEND_PREMIUM_LIVE + LEND_PREMIUM_SPACES)
 #define LEND_PREMIUM_NEXT (LEND_PREMIUM_CACHE + 4 * LEND_PREMIUM_PLACES)
-#define LEND_PREMIUM_IMAGE (LEND_PREMIUM_NEXT + 1)
+#define LEND_PREMIUM_SUMMARY (LEND_PREMIUM_NEXT + 1)
+#define LEND_PREMIUM_IMAGE (LEND_PREMIUM_SUMMARY + 8 * LEND_PREMIUM_PAGES)
 
 /* Writes the start board over any bytes of the right length. Every out field is 0. */
 uint32_t lend_premium_start(uint8_t *image, size_t image_length, uint32_t out[4]);
@@ -194,6 +205,11 @@ uint32_t lend_premium_load(uint8_t *image, size_t image_length, uint8_t *memory,
 /* Changes one byte of memory. Asks for the right to write. Every out field is 0. */
 uint32_t lend_premium_store(uint8_t *image, size_t image_length, uint8_t *memory, size_t memory_length, uint32_t space,
     uint32_t address, uint8_t value, uint32_t out[4]);
+
+/* Who uses a frame, as the summary has it. out[0]: how many held pages outside space 0 end there. out[1], out[2] and out[3]: how many
+ * of these have the right to read, to write and to execute. LEND_UNSOUND, then LEND_PAGE for a frame past the last one; the image is
+ * only read. */
+uint32_t lend_premium_frame(uint8_t *image, size_t image_length, uint32_t frame, uint32_t out[4]);
 
 /* Over ranges. out[0]: how many pages were done. out[1]: the offset of the first refused page, LEND_PREMIUM_PAGES where there is none.
  * out[2]: how many pages were held before the whole call and are empty after it. */

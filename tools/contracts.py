@@ -32,14 +32,17 @@ VIEWS = {
     'answer': ('r', 'entry_listing', 'Unique', 'one-read'),
     'filled': ('r exit', 'entry_listing', 'Unique', 'one-written'),
     'listed': ('r exit exit', 'listing_image', 'Listed', 'one-listed'),
-    # the memory of a call that has none is the empty list
-    'left': ('r exit (entry|exit|none) exit', *MODEL, 'one-left'),
+    # the memory of a call that has none is the empty list; the image of a call that only reads it is lent for reading
+    'left': ('r (entry|exit) (entry|exit|none) exit', *MODEL, 'one-left'),
     # what was lent to a function that hands nothing back
     '≡': ('exit', *MODEL, 'one-bytes'),
 }
 # structs whose fields are given one by one
 FIELDS = {
     'Lookup': ('r', *MODEL, 'one-lookup'),
+    'Tallied': ('r', *MODEL, 'one-tally'),
+    'Pages': ('r', *MODEL, 'one-examined'),
+    'Checked': ('r', *MODEL, 'one-checked'),
 }
 # contracts that are records: what their last arguments are; those before them are the definition's
 RECORDS = {

@@ -1,5 +1,5 @@
 #!/usr/bin/env python3
-"""controls.py [CRATE ..]: tries each must-fail edit and its control, of every crate or of those named. No part of the gate.
+"""controls.py [CRATE | CRATE/EDIT ..]: tries each must-fail edit and its control, or those named. No part of the gate.
 
 Beside crates/NAME/must-fail/X.edit stands X.control, an edit of the same place and the same shape whose meaning is the code's own;
 or X.edit has a line '# no control: REASON'. In a scratch copy of the repository, target/ with it, the crate has to be proved with the
@@ -59,10 +59,10 @@ def tried(top, crate, texts):
     return ('refused' if 'logic=not-proved' in lines else 'BROKEN'), f': {first[:CUT]}'
 
 
-def of_crate(tops, crate):
-    """How many controls of the crate are proved, edits refused, edits without a control, and failures."""
+def of_crate(tops, crate, name):
+    """How many controls of the crate (or the one of the edit named) are proved, edits refused, edits without a control, and failures."""
     top, counts = tops.pop(), [0, 0, 0, 0]
-    for path in sorted(glob.glob(f'crates/{crate}/must-fail/*.edit')):
+    for path in sorted(glob.glob(f'crates/{crate}/must-fail/{name or "*"}.edit')):
         label, control = f'{crate}/{os.path.basename(path)[:-len(".edit")]}', path[:-len('edit')] + 'control'
         if os.path.exists(control):
             came, error = tried(top, crate, edited(crate, control))
@@ -87,7 +87,7 @@ def main(wanted):
         for top in tops:
             scratch(top)
         with concurrent.futures.ThreadPoolExecutor(len(tops)) as pool:
-            all_counts = list(pool.map(lambda crate: of_crate(tops, crate), crates))
+            all_counts = list(pool.map(lambda what: of_crate(tops, *what.partition('/')[::2]), crates))
     proved, refused, without, failed = map(sum, zip(*all_counts))
     print(f'{proved} controls proved, {refused} edits refused, {without} without a control, {failed} failed')
     return 1 if failed else 0

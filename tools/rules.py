@@ -25,8 +25,9 @@ NO_SIZES = [
     ('crates/script/*/Bound.antt crates/listing*/proofs/*.antt', r'(\+|≤) (16|32)\b', 'the bytes of a listing\'s first and last line'),
     ('crates/text*/proofs/*.antt', r'\b32 ∷|spare 8|16 ≤ length', 'the byte of a blank; digits; the shortest line'),
     ('crates/lend_basics/proofs/Rights.antt', r'\b8\b', 'three rights, on both models: their sums are below 8'),
-    ('crates/lend_laws/* crates/lend_lending/* crates/lend_demands/*', r'< 8\b', 'the same'),
+    ('crates/lend_laws/* crates/lend_lending/* crates/lend_summary/* crates/lend_demands/*', r'< 8\b', 'the same'),
     ('crates/lend_code/proofs/Ranges.antt', r'< 64|\^ 64|k 64', 'the bits of a word of the machine'),
+    ('crates/*image/*', r'\b8 \*|[</%] 8\b|countBytes 8\b|\b256\b', 'the eight bytes of a count; the numbers of a byte'),
     ('crates/lend_models/specs/Witness.antt', r'tabulate 16 look|look 16', 'looks at the first pages, which both models have'),
     ('crates/examples_on_k/specs/*', r'\b\d+\b', 'the examples of 01, with the numbers that stand there'),
 ]

@@ -37,6 +37,12 @@ static void lend(void)
     answer("map 2:7 to 1:6, read, back to space 1", CALL(map)(image, sizeof image, 2, 7, 1, 6, LEND_READ, out));
 }
 
+/* Who uses frame 3: how many pages, and how many of them to read, to write and to execute. */
+static void who(const char *when)
+{
+    answer(when, CALL(frame)(image, sizeof image, 3, out));
+}
+
 /* Both spaces see the one frame. */
 static void use(void)
 {
@@ -66,6 +72,8 @@ static void list(void)
     memset(before, 255, sizeof before);
     answer("read it over any bytes", CALL(read_listing)(before, sizeof before, text, length, out));
     printf("pages and live spaces are the same: %s\n", memcmp(before, image, SIZE(CACHE)) == 0 ? "yes" : "no");
+    printf("the summary is the same: %s\n",
+           memcmp(before + SIZE(SUMMARY), image + SIZE(SUMMARY), SIZE(IMAGE) - SIZE(SUMMARY)) == 0 ? "yes" : "no");
     answer("read it without its last newline", CALL(read_listing)(before, sizeof before, text, length - 1, out));
     answer("start", CALL(start)(image, sizeof image, out));
     printf("the start board came back: %s\n", memcmp(before, image, sizeof image) == 0 ? "yes" : "no");
@@ -78,6 +86,7 @@ static void take_back(void)
     const uint32_t address = 7 * LEND_PAGE_BYTES + 10;
 
     answer("unmap below 1:5, write", CALL(unmap)(image, sizeof image, 1, 5, LEND_WRITE, out));
+    who("who uses frame 3");
     answer("store through 2:7, which lost the right",
            CALL(store)(image, sizeof image, memory, sizeof memory, 2, address, 43, out));
     answer("grant 2:7 to 1:6, read, back to space 1", CALL(grant)(image, sizeof image, 2, 7, 1, 6, LEND_READ, out));
@@ -86,19 +95,26 @@ static void take_back(void)
     answer("map 1:5 to 2:7, read and write",
            CALL(map)(image, sizeof image, 1, 5, 2, 7, LEND_READ + LEND_WRITE, out));
     answer("grant 2:7 to 3:0, read: the page goes whole", CALL(grant)(image, sizeof image, 2, 7, 3, 0, LEND_READ, out));
+    who("who uses frame 3, in spaces 1 and 3");
     answer("store through 2:7, which gave its page away",
            CALL(store)(image, sizeof image, memory, sizeof memory, 2, address, 43, out));
     answer("delete space 3", CALL(delete)(image, sizeof image, 3, out));
     answer("map 1:5 to 2:7, read", CALL(map)(image, sizeof image, 1, 5, 2, 7, LEND_READ, out));
     answer("flush 1:5, all rights", CALL(flush)(image, sizeof image, 1, 5, LEND_ALL, out));
+    who("who uses frame 3, which is back in the pool");
     answer("load through 2:7, which is empty",
            CALL(load)(image, sizeof image, memory, sizeof memory, 2, address, out));
 }
 
-/* Bytes that are no board's image are refused, and stay as they are. */
+/* A board whose summary disagrees, and bytes that are no board's image, are refused and stay as they are. */
 static void refuse(void)
 {
     printf("sound: %u\n", (unsigned)CALL(sound)(image, sizeof image));
+    image[SIZE(SUMMARY) + 8 * 3] = 1;
+    printf("sound, with a user of frame 3 too many: %u\n", (unsigned)CALL(sound)(image, sizeof image));
+    who("who uses frame 3, with a user too many");
+    image[SIZE(SUMMARY) + 8 * 3] = 0;
+    printf("sound, as it was: %u\n", (unsigned)CALL(sound)(image, sizeof image));
     image[SIZE(SLOT)] = 3;
     memcpy(before, image, sizeof image);
     printf("sound, with a kind of 3: %u\n", (unsigned)CALL(sound)(image, sizeof image));
@@ -112,6 +128,9 @@ int main(void)
     memset(image, 255, sizeof image);
     answer("start", CALL(start)(image, sizeof image, out));
     lend();
+    who("who uses frame 3, in spaces 1 and 2");
+    answer("who uses the last frame", CALL(frame)(image, sizeof image, SIZE(PAGES) - 1, out));
+    answer("who uses the frame after it", CALL(frame)(image, sizeof image, SIZE(PAGES), out));
     use();
     list();
     take_back();

@@ -84,6 +84,7 @@ static uint32_t call(struct request *r, uint32_t *out) {
     case 't': return CALL(translate)(b, length, n[0], n[1], n[2], out);
     case 'l': return CALL(load)(b, length, m, bytes, n[0], n[1], out);
     case 'w': return CALL(store)(b, length, m, bytes, n[0], n[1], r->value, out);
+    case 'h': return CALL(frame)(b, length, n[0], out);
     case 'U': return CALL(unmap_range)(b, length, n[0], n[1], n[2], n[3], out);
     case 'F': return CALL(flush_range)(b, length, n[0], n[1], n[2], n[3], out);
     case 'M': return CALL(map_range)(b, length, n[0], n[1], n[2], n[3], n[4], n[5], n[6], out);

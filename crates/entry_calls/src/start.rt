@@ -8,6 +8,7 @@ use model::sizes::PAGES;
 use model::sizes::PLACES;
 use model::sizes::SLOTS;
 use model::sizes::SPACES;
+use model::summary::no_count;
 ghost use mathlib.Core.Path.{_≡_};
 ghost use Rattle.lend.specs.Start.{startBoard};
 ghost use Rattle.lend_code.specs.Inner.{startSlots};
@@ -45,5 +46,6 @@ pub fn start() -> Board
             places: [lend::empty_place(); PLACES],
             next: 0,
         },
+        summary: [no_count(); PAGES],
     }
 }

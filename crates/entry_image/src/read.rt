@@ -1,8 +1,10 @@
 // The board of any bytes. What is no board's image gives a board that is not sound, so that every call on it is refused.
 use entry as model;
 use image::link_reads;
+use image::number_from;
 use image::place_from;
 use image::slot_from;
+use lend::Count;
 use lend::Place;
 use lend::Slot;
 use model::Board;
@@ -11,12 +13,15 @@ use model::sizes::CACHE;
 use model::sizes::IMAGE;
 use model::sizes::LIVE;
 use model::sizes::NEXT;
+use model::sizes::PAGES;
 use model::sizes::PLACES;
 use model::sizes::SLOTS;
 use model::sizes::SPACES;
+use model::sizes::SUMMARY;
+use model::summary::no_count;
 ghost use mathlib.Core.Path.{_≡_};
 ghost use lib.ListN.{length};
-ghost use Rattle.image.specs.Image.{imageBytes, slotsRead, liveReads, slotsIn, liveIn, placesIn, noBoard, boardFrom};
+ghost use Rattle.image.specs.Image.{imageBytes, slotsRead, liveReads, slotsIn, liveIn, placesIn, summaryIn, noBoard, boardFrom};
 ghost use Rattle.entry.specs.Sizes.{sizes};
 ghost use Rattle.entry.specs.Board.{tables};
 
@@ -84,6 +89,29 @@ fn read_places(image: &[u8]) -> [Place; PLACES]
     places
 }
 
+fn read_summary(image: &[u8]) -> [Count; PAGES]
+    requires { ⌜ length (now image) ≡ imageBytes sizes ⌝ }
+    ensures { λ r. ⌜ r ≡ summaryIn sizes (now (image .entry)) ⌝ }
+{
+    let mut summary = [no_count(); PAGES];
+    let mut i: usize = 0;
+    while i < PAGES {
+        let at = SUMMARY + 8 * i;
+        let held = number_from(image[at], image[at + 1]);
+        let read = number_from(image[at + 2], image[at + 3]);
+        let write = number_from(image[at + 4], image[at + 5]);
+        let execute = number_from(image[at + 6], image[at + 7]);
+        summary[i] = Count {
+            held,
+            read,
+            write,
+            execute,
+        };
+        i += 1;
+    }
+    summary
+}
+
 // The board that stands for bytes that are no image.
 fn no_board() -> Board
     ensures { λ r. ⌜ tables r ≡ noBoard sizes ⌝ }
@@ -95,6 +123,7 @@ fn no_board() -> Board
             places: [lend::empty_place(); PLACES],
             next: 0,
         },
+        summary: [no_count(); PAGES],
     }
 }
 
@@ -118,5 +147,6 @@ pub fn read_image(image: &[u8]) -> Board
             places: read_places(image),
             next: image[NEXT],
         },
+        summary: read_summary(image),
     }
 }

@@ -1,8 +1,11 @@
 // A board written over bytes of the right length; other bytes stay as they are.
 use entry as model;
 use image::first;
+use image::high;
 use image::kind;
+use image::low;
 use image::second;
+use lend::Count;
 use lend::Place;
 use lend::Slot;
 use model::Board;
@@ -10,14 +13,16 @@ use model::sizes::CACHE;
 use model::sizes::IMAGE;
 use model::sizes::LIVE;
 use model::sizes::NEXT;
+use model::sizes::PAGES;
 use model::sizes::PLACES;
 use model::sizes::SLOTS;
 use model::sizes::SPACES;
+use model::sizes::SUMMARY;
 ghost use Prim.Native.Nat.{_*_};
 ghost use mathlib.Core.Path.{_≡_};
 ghost use mathlib.Core.List.{map};
 ghost use lib.ListN.{length};
-ghost use Rattle.image.specs.Image.{slotBytes, liveByte, placeBytes, joined, liveFrom, cacheFrom, imageBytes, written};
+ghost use Rattle.image.specs.Image.{slotBytes, liveByte, placeBytes, countBytes, joined, liveFrom, cacheFrom, summaryFrom, imageBytes, written};
 ghost use Rattle.image.specs.Put.{PutTo};
 ghost use Rattle.entry.specs.Sizes.{sizes};
 ghost use Rattle.entry.specs.Board.{tables};
@@ -66,6 +71,26 @@ fn write_places(image: &mut [u8], places: [Place; PLACES])
     }
 }
 
+fn write_summary(image: &mut [u8], summary: [Count; PAGES])
+    requires { ⌜ length (now image) ≡ imageBytes sizes ⌝ }
+    ensures { λ _. ⌜ PutTo (joined countBytes summary) (summaryFrom sizes) (8 * sizes .pages) (now (image .entry)) (now (image .exit)) ⌝ }
+{
+    let mut i: usize = 0;
+    while i < PAGES {
+        let count = summary[i];
+        let at = SUMMARY + 8 * i;
+        image[at] = low(count.held);
+        image[at + 1] = high(count.held);
+        image[at + 2] = low(count.read);
+        image[at + 3] = high(count.read);
+        image[at + 4] = low(count.write);
+        image[at + 5] = high(count.write);
+        image[at + 6] = low(count.execute);
+        image[at + 7] = high(count.execute);
+        i += 1;
+    }
+}
+
 pub fn write_image(image: &mut [u8], b: Board)
     ensures { λ _. ⌜ now (image .exit) ≡ written sizes (now (image .entry)) (tables b) ⌝ }
 {
@@ -73,10 +98,12 @@ pub fn write_image(image: &mut [u8], b: Board)
         let slots = b.slots;
         let live = b.live;
         let cache = b.cache;
+        let summary = b.summary;
         let places = cache.places;
         write_slots(image, slots);
         write_live(image, live);
         write_places(image, places);
         image[NEXT] = cache.next;
+        write_summary(image, summary);
     }
 }

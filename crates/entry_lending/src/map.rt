@@ -1,8 +1,9 @@
 // map: the taker's page is flushed of all rights, then linked to the giver's page.
 use crate::checks::lines_number;
 use crate::checks::named_number;
-use crate::relink::cut;
+use crate::relink::linked;
 use crate::relink::taken;
+use crate::relink::taken_from;
 use calls::Answer;
 use calls::reply::refused;
 use entry as model;
@@ -42,12 +43,15 @@ pub(crate) fn map_page(b: Board, from: u32, page: u32, to: u32, at: u32, rights:
     if number != 0 {
         return refused(b, number);
     }
-    let mut new = cut(slots, under_taker, 7);
+    let freed = taken_from(slots, under_taker, 7);
+    let mut new = freed.slots;
     new[taker] = Slot {
         link: Link::Page(from as u8, page as u8),
         rights: asked,
     };
-    taken(b, new, to as u8, at as u8)
+    let summary = b.summary;
+    let counts = linked(slots, summary, taker, giver, freed.lost, asked);
+    taken(b, new, counts, to as u8, at as u8)
 }
 
 // Answers the number, the board after the map, and the count of pages that it emptied.

@@ -20,7 +20,7 @@ use model::sizes::PAGES;
 use model::sizes::PLACES;
 use model::sizes::SLOTS;
 use model::sizes::SPACES;
-use model::sound::sound;
+use model::sound::examine;
 use text::Fields;
 use text::line::line_end;
 ghost use mathlib.Core.Path.{_≡_};
@@ -47,23 +47,29 @@ fn refused(number: u32) -> Read
     }
 }
 
-// The board with these slots and live spaces, or the number that is against it.
+// The board with these slots, their summary and these live spaces, or the number that is against it.
 fn judged(formed: bool, ordered: bool, slots: [Slot; SLOTS], live: u32) -> Read
     ensures { λ r. ⌜ answer r ≡ judgedOf sizes formed ordered (boardWith sizes slots live) ⌝ }
 {
-    let board = Board {
-        slots,
-        live: live_flags(live),
-        cache: Cache {
-            places: [lend::empty_place(); PLACES],
-            next: 0,
-        },
-    };
-    let number = refusal(formed, ordered, sound(board));
+    let flags = live_flags(live);
+    let pages = examine(slots, flags);
+    let number = refusal(formed, ordered, pages.fit);
     if number != 0 {
         return refused(number);
     }
-    Read { number, board }
+    let counts = pages.counts;
+    Read {
+        number,
+        board: Board {
+            slots,
+            live: flags,
+            cache: Cache {
+                places: [lend::empty_place(); PLACES],
+                next: 0,
+            },
+            summary: counts,
+        },
+    }
 }
 
 // Whether the line is a page's, with every number in its field.

@@ -13,7 +13,8 @@ use Rattle.lend.specs.Tables.{Tables, State, alone}
 use Rattle.lend.specs.Line.{line, frame, links}
 use Rattle.lend.specs.Cache.{placeFor, cached, emptyIn, goesTo, nextAfter, lostRight}
 use Rattle.lend.specs.Sound.{Sound}
-use Rattle.lend.specs.SoundTest.{slotTest, pagesTest, cacheTest, soundTest}
+use Rattle.lend.specs.SoundTest.{slotTest, pagesTest, cacheTest, summaryTest, soundTest}
+use Rattle.lend.specs.Summary.{summaryTo}
 use Rattle.lend.specs.Start.{startBoard}
 use Rattle.lend.specs.Withdraw.{unmapped, flushed}
 use Rattle.lend.specs.Lending.{mapped, granted}
@@ -24,7 +25,7 @@ use Rattle.lend.specs.Calls.{Call, Unmap, Flush, Map, Grant, Delete, Outcome, R
 use Rattle.lend_basics.proofs.Bools.{and-false}
 use Rattle.lend_sound.proofs.SoundTest.{test-sound}
 use Rattle.lend_lending.proofs.Always.{steps-sound}
-use Rattle.lend_models.specs.Embedding.{shared, wide, wideSlots, wideLive, widePlaces}
+use Rattle.lend_models.specs.Embedding.{shared, wide, wideSlots, wideLive, widePlaces, wideSummary}
 use Rattle.lend_models.specs.Agreement.{inLimits, allInLimits, takesMemory, anyMemory, replaces, wideState, NoneReplaced}
 use Rattle.lend_models.proofs.Wide.{entry-fits}
 use Rattle.lend_models.proofs.WideSound.{wide-sound}
@@ -39,7 +40,7 @@ _then_ a b = (a, b)
 -- ── on Entry ─────────────────────────────────────────────────────────────
 -- every row is computed; those of Premium's last address are not about Entry
 pub entry-examples : Examples entry
-unfolding table slotsK K startBoard soundTest pagesTest cacheTest slotTest every some count line frame links less within tabulateFrom placeFor cached emptyIn goesTo nextAfter lostRight unmapped flushed mapped granted wipedTo emptied physical linksTo hit looked cases number boardAfter memoryAfter report step steps
+unfolding table slotsK K startBoard soundTest summaryTest summaryTo pagesTest cacheTest slotTest every some count line frame links less within tabulateFrom placeFor cached emptyIn goesTo nextAfter lostRight unmapped flushed mapped granted wipedTo emptied physical linksTo hit looked cases number boardAfter memoryAfter report step steps
 entry-examples = record {
   sound = test-sound entry (K entry) tt;
   rows =
@@ -53,7 +54,7 @@ entry-examples = record {
 -- ── on Premium ───────────────────────────────────────────────────────────
 -- K made wide is K
 K-wide : wide entry premium (K entry) ≡ K premium
-unfolding slotsK K startBoard tabulateFrom shared wideSlots wideLive widePlaces
+unfolding slotsK K startBoard tabulateFrom shared wideSlots wideLive widePlaces wideSummary
 K-wide = refl
 
 -- the state in which a row's own call is made on Entry
@@ -119,7 +120,7 @@ rows-carried (r ∷ rs) s right = ⊎-elim (λ w t. row-shared r w (right .0)) (
 
 -- the rows of the table are such rows, but for those of the two models' last addresses
 table-carried : AllCarried table
-unfolding table NoneReplaced slotsK K startBoard soundTest pagesTest cacheTest slotTest every some count line frame links less within tabulateFrom placeFor cached emptyIn goesTo nextAfter lostRight unmapped flushed mapped granted wipedTo emptied physical linksTo hit looked cases number boardAfter memoryAfter report step steps shared wideSlots wideLive widePlaces
+unfolding table NoneReplaced slotsK K startBoard soundTest summaryTest summaryTo pagesTest cacheTest slotTest every some count line frame links less within tabulateFrom placeFor cached emptyIn goesTo nextAfter lostRight unmapped flushed mapped granted wipedTo emptied physical linksTo hit looked cases number boardAfter memoryAfter report step steps shared wideSlots wideLive widePlaces wideSummary
 table-carried =
     inl (tt, tt, tt, tt, tt, tt, tt, refl)
     then inl (tt, tt, tt, (tt, tt), tt, tt, tt, refl)

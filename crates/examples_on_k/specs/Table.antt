@@ -6,6 +6,7 @@ use mathlib.Core.List.{List, [], _∷_}
 use lib.ListN.{set}
 use lib.Dec.{T, eqb, leb}
 use Rattle.lend.specs.declared.Slot.{Slot}
+use Rattle.lend.specs.declared.Count.{Count}
 use Rattle.lend.specs.Sizes.{Sizes, entry, premium, key}
 use Rattle.lend.specs.Lists.{tabulate}
 use Rattle.lend.specs.Slots.{emptySlot, lentSlot}
@@ -23,13 +24,27 @@ slotsK z =
     put z 1 0 (lentSlot 0 5 7)
     (put z 2 3 (lentSlot 1 0 6) (put z 3 1 (lentSlot 2 3 2) (put z 2 4 (lentSlot 0 6 7) (startBoard z .slots))))
 
--- spaces 0 to 4 live, the cache as at the start
-unfoldable pub K : Sizes → Tables
-K z = record { slots = slotsK z; live = tabulate (z .spaces) (λ s. leb s 4); places = startBoard z .places; next = 0 }
+-- so many pages end at a frame; so many of them can be read, written and executed
+abbrev pub pages : ℕ → ℕ → ℕ → ℕ → Count
+pages n r w x = record { held = n; read = r; write = w; execute = x }
 
--- K with other slots
-abbrev pub withK : Sizes → List Slot → Tables
-withK z b = record { slots = b; live = K z .live; places = K z .places; next = 0 }
+-- what ends at frames 5 and 6; at no other frame does a page end
+abbrev pub ending : Sizes → Count → Count → List Count
+ending z five six = set (set (startBoard z .summary) 5 five) 6 six
+
+-- spaces 0 to 4 live, the cache as at the start; (1,0), (2,3) and (3,1) end at frame 5, and (2,4) at frame 6
+unfoldable pub K : Sizes → Tables
+K z = record {
+  slots = slotsK z;
+  live = tabulate (z .spaces) (λ s. leb s 4);
+  places = startBoard z .places;
+  next = 0;
+  summary = ending z (pages 3 2 3 1) (pages 1 1 1 1);
+}
+
+-- K with other slots, and other pages that end at frame 5
+abbrev pub withK : Sizes → List Slot → Count → Tables
+withK z b five = record { slots = b; live = K z .live; places = K z .places; next = 0; summary = ending z five (pages 1 1 1 1) }
 
 -- K with page p of space 0 in the cache
 abbrev pub oneCached : ℕ → Sizes → Tables
@@ -38,6 +53,7 @@ oneCached p z = record {
   live = K z .live;
   places = set (K z .places) 0 (record { space = 0; page = p; frame = p; rights = 7 });
   next = 0;
+  summary = K z .summary;
 }
 
 -- what a translation of an address of space 0 replies, whose pages hold their frames: over one link
@@ -86,19 +102,19 @@ AllRight z (r ∷ rs) = (T (r .concerns z) → Right z r) × AllRight z rs
 -- ── the rows, by the document's numbers ──────────────────────────────────
 -- (2,3) keeps 4 and (3,1) is empty
 abbrev pub oneCut : Sizes → Tables
-oneCut z = withK z (put z 2 3 (lentSlot 1 0 4) (put z 3 1 emptySlot (slotsK z)))
+oneCut z = withK z (put z 2 3 (lentSlot 1 0 4) (put z 3 1 emptySlot (slotsK z))) (pages 2 2 1 1)
 
 -- (2,3) and (3,1) are empty
 abbrev pub bothEmpty : Sizes → Tables
-bothEmpty z = withK z (put z 2 3 emptySlot (put z 3 1 emptySlot (slotsK z)))
+bothEmpty z = withK z (put z 2 3 emptySlot (put z 3 1 emptySlot (slotsK z))) (pages 1 1 1 1)
 
 -- (1,0) keeps 6
 abbrev pub lessExecute : Sizes → Tables
-lessExecute z = withK z (put z 1 0 (lentSlot 0 5 6) (slotsK z))
+lessExecute z = withK z (put z 1 0 (lentSlot 0 5 6) (slotsK z)) (pages 3 2 3 0)
 
 -- (4,0) has 2 from (1,0), (2,3) and (3,1) are empty
 abbrev pub handedOn : Sizes → Tables
-handedOn z = withK z (put z 4 0 (lentSlot 1 0 2) (put z 2 3 emptySlot (put z 3 1 emptySlot (slotsK z))))
+handedOn z = withK z (put z 4 0 (lentSlot 1 0 2) (put z 2 3 emptySlot (put z 3 1 emptySlot (slotsK z)))) (pages 2 1 2 1)
 
 -- space 2 is not live, its pages and (3,1) are empty
 abbrev pub deleted : Sizes → Tables
@@ -107,6 +123,7 @@ deleted z = record {
   live = set (K z .live) 2 false;
   places = K z .places;
   next = 0;
+  summary = ending z (pages 1 1 1 1) (pages 0 0 0 0);
 }
 
 unfoldable pub table : List Row

@@ -1,5 +1,5 @@
 -- What an export shows, from what the call on the board answered.
-use Prim.Native.Nat.{ℕ}
+use Prim.Native.Nat.{ℕ, _≤_, _<_}
 use mathlib.Core.Path.{_≡_, refl, sym, ap, _∙_}
 use mathlib.Core.Bool.{Bool, true, false, cond}
 use mathlib.Core.List.{List, []}
@@ -7,16 +7,21 @@ use native.Mathlib.Decide.{ℕ-discrete}
 use native.Mathlib.Omega.{arith}
 use lib.Dec.{T, eqb}
 use lib.ListN.{length}
-use borrow.Author.Tests.{eq-eqb, ne-eqb, eqb-true}
+use borrow.Author.Tests.{eq-eqb, ne-eqb, eqb-true, le-leb, lt-leb}
+use Rattle.lend.specs.declared.Count.{Count}
 use Rattle.lend.specs.Sizes.{Sizes}
-use Rattle.lend.specs.Tables.{Tables, State}
+use Rattle.lend.specs.Tables.{Tables, State, tableOf}
+use Rattle.lend.specs.Summary.{countAt, countOf}
 use Rattle.lend.specs.SoundTest.{soundTest}
 use Rattle.lend.specs.Start.{startBoard}
 use Rattle.lend.specs.Calls.{Call, Create, Delete, Unmap, Flush, Map, Grant, Translate, Load, Store, Outcome, plainReply, report, step, number}
+use Rattle.lend_basics.proofs.Bools.{is-true}
+use Rattle.lend_sound.proofs.SoundTest.{test-sound}
+use Rattle.lend_sound.proofs.Summary.{summary-counts}
 use Rattle.lend_laws.proofs.Accepted.{report-number}
 use Rattle.image.specs.Image.{imageOf, imageBytes, isImage, boardFrom, written}
 use Rattle.lend.specs.Ranges.{RangeCall, RangeOutcome, rangeNumber, rangeStep}
-use Rattle.image.specs.Answered.{given, outOf, Left, left, leftBy, answerTo, startAnswer, finishing, soundNumber, threeOf, rangeLeftBy, rangeAnswerTo, rangeFinishing}
+use Rattle.image.specs.Answered.{given, outOf, Left, left, leftBy, answerTo, startAnswer, finishing, soundNumber, threeOf, rangeLeftBy, rangeAnswerTo, rangeFinishing, fourOf, frameLeft, frameAnswer}
 use Rattle.image.proofs.Image.{sound-image, is-long, not-image}
 
 -- a call that is done shows that the board is sound
@@ -151,3 +156,32 @@ module _ (z : Sizes) (t : Tables) (number first second third : ℕ) (image : Lis
   pub range-finished-done : (image′ : List ℕ) → (number ≡ 1 → ⊥) → image′ ≡ written z image t → left number image′ [] (threeOf first second third) ≡ rangeFinishing z t number first second third image
   unfolding rangeFinishing
   range-finished-done image′ h w = rw (ne-eqb number 1 h) (ap (λ (l : List ℕ). left number l [] (threeOf first second third)) w)
+
+-- ── the counts of a frame ────────────────────────────────────────────────
+-- where the board was read from the image and tested
+module _ (z : Sizes) (frame : ℕ) (image : List ℕ) {b : Tables} (e : b ≡ boardFrom z image) {is : Bool} (tests : is ≡ soundTest z b) where
+  of-image : {l : Left} → l ≡ frameLeft z b frame image → l ≡ frameAnswer z frame image
+  unfolding frameAnswer
+  of-image q = q ∙ ap (λ (t : Tables). frameLeft z t frame image) e
+
+  pub frame-unsound : is ≡ false → left 1 image [] (threeOf 0 0 0) ≡ frameAnswer z frame image
+  frame-unsound h = of-image (rw (← tests, h))
+
+  pub frame-past : is ≡ true → z .pages ≤ frame → left 5 image [] (threeOf 0 0 0) ≡ frameAnswer z frame image
+  frame-past h l = of-image (rw (← tests, h, le-leb (z .pages) frame l))
+
+  pub frame-told : is ≡ true → frame < z .pages → left 0 image [] (fourOf (countAt (b .summary) frame)) ≡ frameAnswer z frame image
+  frame-told h l = of-image (rw (← tests, h, lt-leb (z .pages) frame l))
+
+-- on a sound board each field counts the pages that end at the frame
+pub frame-counts : (z : Sizes) (frame : ℕ) (image : List ℕ) → T (soundTest z (boardFrom z image)) → frame < z .pages
+    → frameAnswer z frame image ≡ left 0 image [] (fourOf (countOf z (tableOf (boardFrom z image)) frame))
+frame-counts z frame image h l =
+    sym (frame-told z frame image refl refl (is-true (soundTest z (boardFrom z image)) h) l)
+    ∙ ap (λ (c : Count). left 0 image [] (fourOf c))
+    (ap (λ (s : List Count). countAt s frame) (test-sound z (boardFrom z image) h .summary) ∙ summary-counts z (tableOf (boardFrom z image)) frame l)
+
+-- after any number but 0 every out field is 0
+pub frame-refused : (z : Sizes) (frame : ℕ) (image : List ℕ) (n : ℕ) → frameAnswer z frame image .number ≡ n → (n ≡ 0 → ⊥) → frameAnswer z frame image ≡ left n image [] (threeOf 0 0 0)
+unfolding frameAnswer
+frame-refused z frame image n e h = rw (e, ne-eqb n 0 h)

@@ -12,15 +12,17 @@ use Rattle.lend.specs.declared.Link.{Link}
 use Rattle.lend.specs.declared.Link.the-variants.{Nothing, Frame, Page}
 use Rattle.lend.specs.declared.Slot.{Slot}
 use Rattle.lend.specs.declared.Place.{Place}
+use Rattle.lend.specs.declared.Count.{Count}
 use Rattle.lend.specs.Sizes.{Sizes, slotCount}
 use Rattle.lend.specs.Slots.{emptySlot, slotAt}
 use Rattle.lend.specs.Tables.{Tables, Shaped, alive}
 use Rattle.lend.specs.Cache.{emptyPlace, placeAt}
+use Rattle.lend.specs.Summary.{noCount, countAt}
 use Rattle.lend.specs.SoundTest.{soundTest, pagesTest}
 use Rattle.lend_basics.proofs.Bools.{and-l, and-r, and-i, is-true, is-false}
 use Rattle.lend_basics.proofs.Lists.{length-tabulate, tabulate-at, each, every-of}
-use Rattle.image.specs.Image.{kindOf, firstIn, secondIn, slotBytes, liveByte, placeBytes, imageOf, liveFrom, cacheFrom, nextFrom, imageBytes, byteAt, linkReads, linkFrom, slotFrom, placeFrom, slotReads, slotIn, placeIn, slotsRead, liveReads, isImage, slotsIn, liveIn, placesIn, tablesIn, noBoard, boardFrom}
-use Rattle.image.proofs.Bytes.{image-long, image-slot, image-live, image-place, image-next, Parts, each-byte}
+use Rattle.image.specs.Image.{kindOf, firstIn, secondIn, slotBytes, liveByte, placeBytes, lowByte, highByte, countBytes, imageOf, liveFrom, cacheFrom, nextFrom, summaryFrom, imageBytes, byteAt, linkReads, linkFrom, slotFrom, placeFrom, numberFrom, slotReads, slotIn, placeIn, countIn, slotsRead, liveReads, isImage, slotsIn, liveIn, placesIn, summaryIn, tablesIn, noBoard, boardFrom}
+use Rattle.image.proofs.Bytes.{image-long, image-slot, image-live, image-place, image-next, image-count, Parts, each-byte}
 
 -- ── one link, one live byte ──────────────────────────────────────────────
 link-back : (l : Link) → linkFrom (kindOf l) (firstIn l) (secondIn l) ≡ l
@@ -67,6 +69,16 @@ live-kept (suc (suc n)) h = absurd (omega (arith, leb→le (suc (suc n)) 1 h))
 slot-back : (s : Slot) → slotFrom (kindOf (s .link)) (firstIn (s .link)) (secondIn (s .link)) (s .rights) ≡ s
 slot-back s = λ i. record { link = link-back (s .link) i; rights = s .rights }
 
+-- ── one number of the summary ────────────────────────────────────────────
+number-back : (n : ℕ) {low high : ℕ} → low ≡ lowByte n → high ≡ highByte n → numberFrom low high ≡ n
+number-back n e f = omega (arith, e, f)
+
+low-kept : (low high : ℕ) → low < 256 → lowByte (numberFrom low high) ≡ low
+low-kept low high h = omega arith
+
+high-kept : (low high : ℕ) → low < 256 → highByte (numberFrom low high) ≡ high
+high-kept low high h = omega arith
+
 -- ── what was written is read ─────────────────────────────────────────────
 module _ (z : Sizes) (t : Tables) (s : Shaped z t) where
   slot-written : (k : ℕ) → k < slotCount z → slotIn (imageOf t) (4 * k) ≡ slotAt (t .slots) k
@@ -84,6 +96,24 @@ module _ (z : Sizes) (t : Tables) (s : Shaped z t) where
       let at-2 = image-place z t s i 2 (cacheFrom z + 4 * i + 2) h (omega arith) refl in
       let at-3 = image-place z t s i 3 (cacheFrom z + 4 * i + 3) h (omega arith) refl in
       λ j. placeFrom (at-0 j) (at-1 j) (at-2 j) (at-3 j)
+
+  count-written : (k : ℕ) → k < z .pages → countIn (imageOf t) (summaryFrom z + 8 * k) ≡ countAt (t .summary) k
+  count-written k h =
+      let at-0 = image-count z t s k 0 (summaryFrom z + 8 * k) h (omega arith) (omega arith) in
+      let at-1 = image-count z t s k 1 (summaryFrom z + 8 * k + 1) h (omega arith) refl in
+      let at-2 = image-count z t s k 2 (summaryFrom z + 8 * k + 2) h (omega arith) refl in
+      let at-3 = image-count z t s k 3 (summaryFrom z + 8 * k + 3) h (omega arith) refl in
+      let at-4 = image-count z t s k 4 (summaryFrom z + 8 * k + 4) h (omega arith) refl in
+      let at-5 = image-count z t s k 5 (summaryFrom z + 8 * k + 5) h (omega arith) refl in
+      let at-6 = image-count z t s k 6 (summaryFrom z + 8 * k + 6) h (omega arith) refl in
+      let at-7 = image-count z t s k 7 (summaryFrom z + 8 * k + 7) h (omega arith) refl in
+      let n = countAt (t .summary) k in
+      λ i. record {
+        held = number-back (n .held) at-0 at-1 i;
+        read = number-back (n .read) at-2 at-3 i;
+        write = number-back (n .write) at-4 at-5 i;
+        execute = number-back (n .execute) at-6 at-7 i;
+      }
 
   slots-written : slotsIn z (imageOf t) ≡ t .slots
   unfolding slotsIn
@@ -115,9 +145,24 @@ module _ (z : Sizes) (t : Tables) (s : Shaped z t) where
       long : length (placesIn z (imageOf t)) ≡ z .places
       long = length-tabulate (λ i. placeIn (imageOf t) (cacheFrom z + 4 * i)) (z .places)
 
+  summary-written : summaryIn z (imageOf t) ≡ t .summary
+  unfolding summaryIn
+  summary-written =
+      ext-getD noCount (summaryIn z (imageOf t)) (t .summary) (long ∙ sym (s .summary-long))
+      (λ k l. tabulate-at (λ i. countIn (imageOf t) (summaryFrom z + 8 * i)) (z .pages) k noCount (omega (arith, long)) ∙ count-written k (omega (arith, long)))
+    where
+      long : length (summaryIn z (imageOf t)) ≡ z .pages
+      long = length-tabulate (λ i. countIn (imageOf t) (summaryFrom z + 8 * i)) (z .pages)
+
   tables-written : tablesIn z (imageOf t) ≡ t
   unfolding tablesIn
-  tables-written = λ i. record { slots = slots-written i; live = live-written i; places = places-written i; next = image-next z t s i }
+  tables-written = λ i. record {
+    slots = slots-written i;
+    live = live-written i;
+    places = places-written i;
+    next = image-next z t s i;
+    summary = summary-written i;
+  }
 
   -- what is written is an image
   pub image-is : T (isImage z (imageOf t))
@@ -141,11 +186,12 @@ module _ (z : Sizes) (t : Tables) (s : Shaped z t) where
 
 -- ── what was read is written ─────────────────────────────────────────────
 pub tables-shaped : (z : Sizes) (bytes : List ℕ) → Shaped z (tablesIn z bytes)
-unfolding tablesIn slotsIn liveIn placesIn
+unfolding tablesIn slotsIn liveIn placesIn summaryIn
 tables-shaped z bytes = record {
   slots-long = length-tabulate (λ k. slotIn bytes (4 * k)) (slotCount z);
   live-long = length-tabulate (λ s. eqb (byteAt bytes (liveFrom z + s)) 1) (z .spaces);
   places-long = length-tabulate (λ i. placeIn bytes (cacheFrom z + 4 * i)) (z .places);
+  summary-long = length-tabulate (λ i. countIn bytes (summaryFrom z + 8 * i)) (z .pages);
 }
 
 module _ (z : Sizes) (bytes : List ℕ) (is : T (isImage z bytes)) where
@@ -166,9 +212,9 @@ module _ (z : Sizes) (bytes : List ℕ) (is : T (isImage z bytes)) where
   live-byte =
       each (z .spaces) (λ s. leb (byteAt bytes (liveFrom z + s)) 1) (and-r (eqb (length bytes) (imageBytes z) && slotsRead z bytes) (liveReads z bytes) is)
 
-  parts : Parts z (λ j. getD (imageOf (tablesIn z bytes)) j 0 ≡ getD bytes j 0)
-  unfolding tablesIn slotsIn liveIn placesIn
-  parts = record {
+  parts : ((j : ℕ) → byteAt bytes j < 256) → Parts z (λ j. getD (imageOf (tablesIn z bytes)) j 0 ≡ getD bytes j 0)
+  unfolding tablesIn slotsIn liveIn placesIn summaryIn
+  parts small = record {
     slots = λ k c h l. image-slot z (tablesIn z bytes) (tables-shaped z bytes) k c (4 * k + c) h l refl
         ∙ (ap (λ (s : Slot). getD (slotBytes s) c 0) (tabulate-at (λ j. slotIn bytes (4 * j)) (slotCount z) k emptySlot h) ∙ of-slot k (slot-reads k h) c l);
     live = λ i h. image-live z (tablesIn z bytes) (tables-shaped z bytes) i h
@@ -176,6 +222,8 @@ module _ (z : Sizes) (bytes : List ℕ) (is : T (isImage z bytes)) where
     places = λ i c h l. image-place z (tablesIn z bytes) (tables-shaped z bytes) i c (cacheFrom z + 4 * i + c) h l refl
         ∙ (ap (λ (q : Place). getD (placeBytes q) c 0) (tabulate-at (λ j. placeIn bytes (cacheFrom z + 4 * j)) (z .places) i emptyPlace h) ∙ of-place (cacheFrom z + 4 * i) c l);
     next = image-next z (tablesIn z bytes) (tables-shaped z bytes);
+    summary = λ i c h l. image-count z (tablesIn z bytes) (tables-shaped z bytes) i c (summaryFrom z + 8 * i + c) h l refl
+        ∙ (ap (λ (n : Count). getD (countBytes n) c 0) (tabulate-at (λ j. countIn bytes (summaryFrom z + 8 * j)) (z .pages) i noCount h) ∙ of-count (summaryFrom z + 8 * i) c l);
   }
     where
       of-slot : (k : ℕ) → T (slotReads bytes (4 * k)) → (c : ℕ) → c < 4 → getD (slotBytes (slotIn bytes (4 * k))) c 0 ≡ getD bytes (4 * k + c) 0
@@ -192,12 +240,24 @@ module _ (z : Sizes) (bytes : List ℕ) (is : T (isImage z bytes)) where
       of-place at (suc (suc (suc zero))) l = refl
       of-place at (suc (suc (suc (suc c)))) l = absurd (omega arith)
 
-  pub write-back : imageOf (boardFrom z bytes) ≡ bytes
+      of-count : (at c : ℕ) → c < 8 → getD (countBytes (countIn bytes at)) c 0 ≡ getD bytes (at + c) 0
+      of-count at zero l = low-kept (byteAt bytes at) (byteAt bytes (at + 1)) (small at) ∙ ap (byteAt bytes) (omega arith)
+      of-count at (suc zero) l = high-kept (byteAt bytes at) (byteAt bytes (at + 1)) (small at)
+      of-count at (suc (suc zero)) l = low-kept (byteAt bytes (at + 2)) (byteAt bytes (at + 3)) (small (at + 2))
+      of-count at (suc (suc (suc zero))) l = high-kept (byteAt bytes (at + 2)) (byteAt bytes (at + 3)) (small (at + 2))
+      of-count at (suc (suc (suc (suc zero)))) l = low-kept (byteAt bytes (at + 4)) (byteAt bytes (at + 5)) (small (at + 4))
+      of-count at (suc (suc (suc (suc (suc zero))))) l = high-kept (byteAt bytes (at + 4)) (byteAt bytes (at + 5)) (small (at + 4))
+      of-count at (suc (suc (suc (suc (suc (suc zero)))))) l = low-kept (byteAt bytes (at + 6)) (byteAt bytes (at + 7)) (small (at + 6))
+      of-count at (suc (suc (suc (suc (suc (suc (suc zero))))))) l = high-kept (byteAt bytes (at + 6)) (byteAt bytes (at + 7)) (small (at + 6))
+      of-count at (suc (suc (suc (suc (suc (suc (suc (suc c)))))))) l = absurd (omega arith)
+
+  -- numbers below 256, as every lent byte is
+  pub write-back : ((j : ℕ) → byteAt bytes j < 256) → imageOf (boardFrom z bytes) ≡ bytes
   unfolding boardFrom
-  write-back =
+  write-back small =
       rw (is-true (isImage z bytes) is)
       (ext-getD 0 (imageOf (tablesIn z bytes)) bytes (long ∙ sym is-long)
-      (λ j l. each-byte z (λ i. getD (imageOf (tablesIn z bytes)) i 0 ≡ getD bytes i 0) parts j (omega (arith, long))))
+      (λ j l. each-byte z (λ i. getD (imageOf (tablesIn z bytes)) i 0 ≡ getD bytes i 0) (parts small) j (omega (arith, long))))
     where
       long : length (imageOf (tablesIn z bytes)) ≡ imageBytes z
       long = image-long z (tablesIn z bytes) (tables-shaped z bytes)
@@ -222,10 +282,16 @@ sound-image z bytes h = go (isImage z bytes) refl
     go false e = let u : T (soundTest z (noBoard z)) = rw e at h in absurd (rw (no-board z) at u)
 
 -- the code makes that board of arrays of one value each
-pub no-board-made : (z : Sizes) (x : Slot) (q : Place) → x ≡ emptySlot → q ≡ emptyPlace
-    → (record { slots = replicate (slotCount z) x; live = replicate (z .spaces) false; places = replicate (z .places) q; next = 0 }) ≡ noBoard z
+pub no-board-made : (z : Sizes) (x : Slot) (q : Place) (n : Count) → x ≡ emptySlot → q ≡ emptyPlace → n ≡ noCount
+    → (record { slots = replicate (slotCount z) x; live = replicate (z .spaces) false; places = replicate (z .places) q; next = 0; summary = replicate (z .pages) n }) ≡ noBoard z
 unfolding noBoard
-no-board-made z x q e f = λ i. record { slots = replicate (slotCount z) (e i); live = replicate (z .spaces) false; places = replicate (z .places) (f i); next = 0 }
+no-board-made z x q n e f g = λ i. record {
+  slots = replicate (slotCount z) (e i);
+  live = replicate (z .spaces) false;
+  places = replicate (z .places) (f i);
+  next = 0;
+  summary = replicate (z .pages) (g i);
+}
 
 -- ── the board of any bytes, as the code finds it ─────────────────────────
 module _ (z : Sizes) (bytes : List ℕ) where
@@ -248,13 +314,16 @@ module _ (z : Sizes) (bytes : List ℕ) where
     board-bad t h e = rw (is-false (isImage z bytes) (λ is. (rw (← of-slots, ← of-live, h) at (image-reads is)))) e
 
     -- an image
-    pub board-good : (slots : List Slot) (live : List Bool) (places : List Place) → length bytes ≡ imageBytes z → (slots-ok && live-ok) ≡ true
+    pub board-good : (slots : List Slot) (live : List Bool) (places : List Place) (summary : List Count) → length bytes ≡ imageBytes z → (slots-ok && live-ok) ≡ true
         → slots ≡ slotsIn z bytes
         → live ≡ liveIn z bytes
         → places ≡ placesIn z bytes
-        → (record { slots = slots; live = live; places = places; next = byteAt bytes (nextFrom z) }) ≡ boardFrom z bytes
+        → summary ≡ summaryIn z bytes
+        → (record { slots = slots; live = live; places = places; next = byteAt bytes (nextFrom z); summary = summary }) ≡ boardFrom z bytes
     unfolding boardFrom isImage tablesIn
-    board-good slots live places e h p q r = rw (eq-eqb (length bytes) (imageBytes z) e, ← of-slots, ← of-live, h) (λ i. record { slots = p i; live = q i; places = r i; next = byteAt bytes (nextFrom z) })
+    board-good slots live places summary e h p q r u =
+        rw (eq-eqb (length bytes) (imageBytes z) e, ← of-slots, ← of-live, h)
+        (λ i. record { slots = p i; live = q i; places = r i; next = byteAt bytes (nextFrom z); summary = u i })
 
 -- the board of bytes that are no image is not sound
 pub not-image : (z : Sizes) (bytes : List ℕ) → isImage z bytes ≡ false → soundTest z (boardFrom z bytes) ≡ false

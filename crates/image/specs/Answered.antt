@@ -1,12 +1,15 @@
 -- What a call from C leaves behind. One form for all of them, over the step of the rules: the number that comes back, and every byte of
 -- the image, of the memory and of the out fields.
 use Prim.Native.Nat.{ℕ}
-use mathlib.Core.Bool.{cond}
+use mathlib.Core.Bool.{not, cond}
 use mathlib.Core.List.{List, [], _∷_}
 use lib.ListN.{length}
 use lib.Dec.{eqb}
+use Rattle.lend.specs.declared.Count.{Count}
 use Rattle.lend.specs.Sizes.{Sizes}
 use Rattle.lend.specs.Tables.{Tables, State}
+use Rattle.lend.specs.Summary.{countAt}
+use Rattle.lend.specs.Numbers.{_when_, firstOf, noPage}
 use Rattle.lend.specs.SoundTest.{soundTest}
 use Rattle.lend.specs.Start.{startBoard}
 use Rattle.lend.specs.Calls.{Call, Create, Delete, Unmap, Flush, Map, Grant, Translate, Load, Store, Reply, Outcome, step}
@@ -17,7 +20,7 @@ use Rattle.image.specs.Image.{imageOf, imageBytes, boardFrom, written}
 abbrev pub given : Sizes → List ℕ → List ℕ → State
 given z image memory = record { board = boardFrom z image; memory = memory }
 
--- the four out fields: no call fills more than three
+-- the four out fields: no call but `frame` fills more than three
 abbrev pub threeOf : ℕ → ℕ → ℕ → List ℕ
 threeOf x y w = x ∷ y ∷ w ∷ 0 ∷ []
 
@@ -75,3 +78,20 @@ rangeAnswerTo z call image = rangeLeftBy image (rangeStep z (given z image []) c
 -- what the last part of such a call leaves
 unfoldable pub rangeFinishing : Sizes → Tables → ℕ → ℕ → ℕ → ℕ → List ℕ → Left
 rangeFinishing z t n first second third image = left n (cond (eqb n 1) image (written z image t)) [] (threeOf first second third)
+
+-- ── the counts of a frame ────────────────────────────────────────────────
+-- a frame number past the last frame is 5, as a page number is
+abbrev pub frameNumber : Sizes → Tables → ℕ → ℕ
+frameNumber z b frame = firstOf ((1 when not (soundTest z b)) ∷ (5 when noPage z frame) ∷ [])
+
+abbrev pub fourOf : Count → List ℕ
+fourOf c = c .held ∷ c .read ∷ c .write ∷ c .execute ∷ []
+
+-- for the board of the image; the image stays
+abbrev pub frameLeft : Sizes → Tables → ℕ → List ℕ → Left
+frameLeft z b frame image =
+    let n : ℕ = frameNumber z b frame in
+    left n image [] (cond (eqb n 0) (fourOf (countAt (b .summary) frame)) (threeOf 0 0 0))
+
+unfoldable pub frameAnswer : Sizes → ℕ → List ℕ → Left
+frameAnswer z frame image = frameLeft z (boardFrom z image) frame image

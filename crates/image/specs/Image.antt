@@ -1,5 +1,5 @@
 -- The byte image of a board, byte by byte as include/lend.h has it: what stands in it, and which bytes are one.
-use Prim.Native.Nat.{ℕ, _+_, _*_}
+use Prim.Native.Nat.{ℕ, _+_, _*_, _/_, _%_}
 use mathlib.Core.Bool.{Bool, false, _&&_, _||_, cond}
 use mathlib.Core.List.{List, [], _∷_, _++_, map}
 use lib.ListN.{length, getD, replicate}
@@ -8,10 +8,12 @@ use Rattle.lend.specs.declared.Link.{Link}
 use Rattle.lend.specs.declared.Link.the-variants.{Nothing, Frame, Page}
 use Rattle.lend.specs.declared.Slot.{Slot}
 use Rattle.lend.specs.declared.Place.{Place}
+use Rattle.lend.specs.declared.Count.{Count}
 use Rattle.lend.specs.Sizes.{Sizes, slotCount}
 use Rattle.lend.specs.Lists.{every, tabulate}
 use Rattle.lend.specs.Slots.{emptySlot}
 use Rattle.lend.specs.Tables.{Tables}
+use Rattle.lend.specs.Summary.{noCount}
 use Rattle.lend.specs.Cache.{emptyPlace}
 
 -- ── the image of a board ─────────────────────────────────────────────────
@@ -40,14 +42,27 @@ liveByte is = cond is 1 0
 abbrev pub placeBytes : Place → List ℕ
 placeBytes q = q .space ∷ q .page ∷ q .frame ∷ q .rights ∷ []
 
+-- a number of the summary is two bytes, the low one first
+abbrev pub lowByte : ℕ → ℕ
+lowByte n = n % 256
+
+abbrev pub highByte : ℕ → ℕ
+highByte n = n / 256
+
+abbrev pub countBytes : Count → List ℕ
+countBytes c =
+    lowByte (c .held) ∷ highByte (c .held) ∷ lowByte (c .read) ∷ highByte (c .read)
+    ∷ lowByte (c .write) ∷ highByte (c .write) ∷ lowByte (c .execute) ∷ highByte (c .execute) ∷ []
+
 -- the bytes of all elements, one after the other
 unfoldable pub joined : {A : Type 0} → (A → List ℕ) → List A → List ℕ
 joined f [] = []
 joined f (x ∷ xs) = f x ++ joined f xs
 
--- slots, live spaces, places, next place
+-- slots, live spaces, places, next place, summary
 unfoldable pub imageOf : Tables → List ℕ
-imageOf t = joined slotBytes (t .slots) ++ (map liveByte (t .live) ++ (joined placeBytes (t .places) ++ (t .next ∷ [])))
+imageOf t =
+    joined slotBytes (t .slots) ++ (map liveByte (t .live) ++ (joined placeBytes (t .places) ++ (t .next ∷ joined countBytes (t .summary))))
 
 -- where each part begins, and how many bytes there are
 abbrev pub liveFrom : Sizes → ℕ
@@ -59,8 +74,11 @@ cacheFrom z = liveFrom z + z .spaces
 abbrev pub nextFrom : Sizes → ℕ
 nextFrom z = cacheFrom z + 4 * z .places
 
+abbrev pub summaryFrom : Sizes → ℕ
+summaryFrom z = nextFrom z + 1
+
 abbrev pub imageBytes : Sizes → ℕ
-imageBytes z = nextFrom z + 1
+imageBytes z = summaryFrom z + 8 * z .pages
 
 -- ── the board of an image ────────────────────────────────────────────────
 abbrev pub byteAt : List ℕ → ℕ → ℕ
@@ -79,6 +97,9 @@ slotFrom kind x y r = record { link = linkFrom kind x y; rights = r }
 abbrev pub placeFrom : ℕ → ℕ → ℕ → ℕ → Place
 placeFrom space page frame r = record { space = space; page = page; frame = frame; rights = r }
 
+abbrev pub numberFrom : ℕ → ℕ → ℕ
+numberFrom low high = low + 256 * high
+
 -- the four bytes that begin at a place
 abbrev pub slotReads : List ℕ → ℕ → Bool
 slotReads bytes at = linkReads (byteAt bytes at) (byteAt bytes (at + 1)) (byteAt bytes (at + 2))
@@ -88,6 +109,15 @@ slotIn bytes at = slotFrom (byteAt bytes at) (byteAt bytes (at + 1)) (byteAt byt
 
 abbrev pub placeIn : List ℕ → ℕ → Place
 placeIn bytes at = placeFrom (byteAt bytes at) (byteAt bytes (at + 1)) (byteAt bytes (at + 2)) (byteAt bytes (at + 3))
+
+-- the eight bytes that begin at a place: any two of them are a number
+abbrev pub countIn : List ℕ → ℕ → Count
+countIn bytes at = record {
+  held = numberFrom (byteAt bytes at) (byteAt bytes (at + 1));
+  read = numberFrom (byteAt bytes (at + 2)) (byteAt bytes (at + 3));
+  write = numberFrom (byteAt bytes (at + 4)) (byteAt bytes (at + 5));
+  execute = numberFrom (byteAt bytes (at + 6)) (byteAt bytes (at + 7));
+}
 
 -- every slot of the image is one, and every live byte is 0 or 1
 unfoldable pub slotsRead : Sizes → List ℕ → Bool
@@ -110,12 +140,16 @@ liveIn z bytes = tabulate (z .spaces) (λ s. eqb (byteAt bytes (liveFrom z + s))
 unfoldable pub placesIn : Sizes → List ℕ → List Place
 placesIn z bytes = tabulate (z .places) (λ i. placeIn bytes (cacheFrom z + 4 * i))
 
+unfoldable pub summaryIn : Sizes → List ℕ → List Count
+summaryIn z bytes = tabulate (z .pages) (λ i. countIn bytes (summaryFrom z + 8 * i))
+
 unfoldable pub tablesIn : Sizes → List ℕ → Tables
 tablesIn z bytes = record {
   slots = slotsIn z bytes;
   live = liveIn z bytes;
   places = placesIn z bytes;
   next = byteAt bytes (nextFrom z);
+  summary = summaryIn z bytes;
 }
 
 -- A board that is not sound, as no space is live: it stands for bytes that are no board's image, so that every call on them gives 1.
@@ -125,6 +159,7 @@ noBoard z = record {
   live = replicate (z .spaces) false;
   places = replicate (z .places) emptyPlace;
   next = 0;
+  summary = replicate (z .pages) noCount;
 }
 
 -- the board of any bytes

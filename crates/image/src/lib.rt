@@ -4,7 +4,7 @@ use lend::Link;
 use lend::Place;
 use lend::Slot;
 ghost use mathlib.Core.Path.{_≡_};
-ghost use Rattle.image.specs.Image.{kindOf, firstIn, secondIn, linkReads, slotFrom, placeFrom};
+ghost use Rattle.image.specs.Image.{kindOf, firstIn, secondIn, lowByte, highByte, linkReads, slotFrom, placeFrom, numberFrom};
 
 pub fn kind(link: Link) -> u8
     ensures { λ r. ⌜ r ≡ kindOf link ⌝ }
@@ -36,6 +36,20 @@ pub fn second(link: Link) -> u8
         Link::Frame(_) => 0,
         Link::Page(_, page) => page,
     }
+}
+
+// The low byte of a number of the summary.
+pub fn low(n: u16) -> u8
+    ensures { λ r. ⌜ r ≡ lowByte n ⌝ }
+{
+    (n % 256) as u8
+}
+
+// The high byte of a number of the summary.
+pub fn high(n: u16) -> u8
+    ensures { λ r. ⌜ r ≡ highByte n ⌝ }
+{
+    (n / 256) as u8
 }
 
 // Whether a kind and two numbers are a link.
@@ -77,4 +91,11 @@ pub fn place_from(space: u8, page: u8, frame: u8, rights: u8) -> Place
         frame,
         rights,
     }
+}
+
+// The number of two bytes.
+pub fn number_from(low: u8, high: u8) -> u16
+    ensures { λ r. ⌜ r ≡ numberFrom low high ⌝ }
+{
+    (low as u16) + 256 * (high as u16)
 }

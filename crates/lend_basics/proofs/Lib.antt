@@ -4,3 +4,4 @@ pub mod Lists
 pub mod Loops
 pub mod Pigeon
 pub mod Unique
+pub mod Counting

@@ -5,22 +5,25 @@ use mathlib.Core.List.{List}
 use Prim.Native.Nat.{ℕ, _≤_, _<_}
 use native.Mathlib.Omega.{arith}
 use lib.Dec.{eqb}
-use lib.ListN.{set}
 use borrow.Author.Tests.{not-true, not-false}
+use Rattle.lend.specs.declared.Count.{Count}
 use Rattle.lend.specs.Sizes.{Sizes, slotCount, key}
 use Rattle.lend.specs.Rights.{allRights}
-use Rattle.lend.specs.Tables.{Tables, State, alone}
+use Rattle.lend.specs.Tables.{Tables, State, alone, tableOf}
+use Rattle.lend.specs.Line.{frameOf}
 use Rattle.lend.specs.Sound.{Sound}
 use Rattle.lend.specs.SoundTest.{soundTest, Tells}
 use Rattle.lend.specs.Emptied.{emptied}
+use Rattle.lend.specs.Numbers.{firstOf}
 use Rattle.lend.specs.Calls.{Call, Create, Delete, Unmap, Flush, Outcome, number, cases, step, accept, refuse, boardAfter, memoryAfter, report, withLive}
 use Rattle.lend_basics.proofs.Bools.{is-true, true-is}
 use Rattle.lend_sound.proofs.SoundTest.{test-sound, sound-test}
 use Rattle.lend_laws.proofs.Accepted.{accepted, refused, tested, PageFine, DeleteFine, CreateFine, create-fine, delete-fine, unmap-fine, flush-fine}
 use Rattle.lend_laws.proofs.Emptied.{emptied-none}
-use Rattle.lend_code.specs.Inner.{lineHas, onlyPage, spacePages, pageChecks, pageNumber, withdrawnOf}
+use Rattle.lend_summary.specs.Counts.{lessAt}
+use Rattle.lend_code.specs.Inner.{lineHas, rightsOf, summaryWith, Framed, spacePages, pageChecks, pageNumber, cutSlots, cutLost, withdrawnOf}
 use Rattle.lend_code.proofs.Fits.{key-in}
-use Rattle.lend_code.proofs.Withdrawals.{unmap-is, flush-is, delete-is}
+use Rattle.lend_code.proofs.Withdrawals.{belowSet, lineSet, unmap-is, flush-is, delete-is}
 
 module _ (z : Sizes) (b : Tables) (c : Call) (n : ℕ) (is : n ≡ number z (alone b) c) where
   -- a number other than 0 refuses the call
@@ -41,6 +44,11 @@ unfolding number
 call-unsound z b c r told e =
     let q : soundTest z b ≡ false = sym (told .as-test) ∙ not-true r e in
     call-refused z b c 1 (rw q) (λ h. omega arith)
+
+-- the number of a call whose soundness was told apart
+pub call-judged : (z : Sizes) (b : Tables) (c : Call) (n : ℕ) (t : Bool) → Tells z b t → n ≡ cond (not t) 1 (firstOf (cases z (alone b) c)) → n ≡ number z (alone b) c
+unfolding number
+call-judged z b c n t told e = e ∙ ap (λ (s : Bool). cond (not s) 1 (firstOf (cases z (alone b) c))) (told .as-test)
 
 -- and one that is sound is called with no test of it
 pub sound-told : (z : Sizes) (b : Tables) (r : Bool) → Tells z b r → not r ≡ false → Sound z b
@@ -67,16 +75,18 @@ module _ (z : Sizes) (b : Tables) (s p d n : ℕ) (is : n ≡ number z (alone b)
   pub unmap-shows : PageFine z b s p d
   unmap-shows = unmap-fine z (alone b) s p d (sym is ∙ done)
 
-  pub unmap-done : withdrawnOf z b (set (lineHas z (b .slots) (onlyPage z (key z s p))) (key z s p) false) d ≡ step z (alone b) (Unmap s p d)
-  unmap-done = unmap-is z b (call-sound z b (Unmap s p d) n is done) s p d unmap-shows ∙ call-accepted z b (Unmap s p d) n is done
+  pub unmap-done : (frame : ℕ) → frame ≡ frameOf z (tableOf b) (key z s p)
+      → withdrawnOf z b (belowSet z (b .slots) (key z s p)) d (lessAt (b .summary) frame (cutLost z (b .slots) (belowSet z (b .slots) (key z s p)) d)) ≡ step z (alone b) (Unmap s p d)
+  unmap-done frame e = unmap-is z b (call-sound z b (Unmap s p d) n is done) s p d unmap-shows frame e ∙ call-accepted z b (Unmap s p d) n is done
 
 module _ (z : Sizes) (b : Tables) (s p d n : ℕ) (is : n ≡ number z (alone b) (Flush s p d)) (done : n ≡ 0) where
   pub flush-shows : PageFine z b s p d
   flush-shows = flush-fine z (alone b) s p d (sym is ∙ done) .0
 
-  pub flush-done : withdrawnOf z b (lineHas z (b .slots) (onlyPage z (key z s p))) d ≡ step z (alone b) (Flush s p d)
-  flush-done =
-      flush-is z b (call-sound z b (Flush s p d) n is done) s p d (flush-fine z (alone b) s p d (sym is ∙ done) .1) flush-shows
+  pub flush-done : (frame : ℕ) → frame ≡ frameOf z (tableOf b) (key z s p)
+      → withdrawnOf z b (lineSet z (b .slots) (key z s p)) d (lessAt (b .summary) frame (cutLost z (b .slots) (lineSet z (b .slots) (key z s p)) d)) ≡ step z (alone b) (Flush s p d)
+  flush-done frame e =
+      flush-is z b (call-sound z b (Flush s p d) n is done) s p d flush-shows frame e (flush-fine z (alone b) s p d (sym is ∙ done) .1)
       ∙ call-accepted z b (Flush s p d) n is done
 
 -- the page that an accepted call names is in the table
@@ -99,5 +109,9 @@ module _ (z : Sizes) (one : 1 ≤ z .pages) (b : Tables) (s n : ℕ) (is : n ≡
   pub delete-shows : DeleteFine z b s
   delete-shows = delete-fine z (alone b) s (sym is ∙ done)
 
-  pub delete-done : withdrawnOf z (withLive b s false) (lineHas z (b .slots) (spacePages z s)) allRights ≡ step z (alone b) (Delete s)
-  delete-done = delete-is z b (call-sound z b (Delete s) n is done) one s delete-shows ∙ call-accepted z b (Delete s) n is done
+  pub delete-done : (frames : List ℕ) → Framed z (tableOf b) frames → (counts : List Count)
+      → counts ≡ summaryWith z (rightsOf z (cutSlots z (b .slots) (lineHas z (b .slots) (spacePages z s)) allRights)) frames
+      → withdrawnOf z (withLive b s false) (lineHas z (b .slots) (spacePages z s)) allRights counts ≡ step z (alone b) (Delete s)
+  delete-done frames framed counts e =
+      ap (withdrawnOf z (withLive b s false) (lineHas z (b .slots) (spacePages z s)) allRights) e
+      ∙ (delete-is z b (call-sound z b (Delete s) n is done) one s delete-shows frames framed ∙ call-accepted z b (Delete s) n is done)

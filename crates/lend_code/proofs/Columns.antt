@@ -1,8 +1,9 @@
 -- What the lists of the inner functions have at each page: how they stand to the rules, which speak of one page at a time.
-use mathlib.Core.Path.{_≡_, refl, sym, ap, _∙_}
+use mathlib.Core.Path.{_≡_, refl, sym, ap, _∙_, fun-ext}
 use mathlib.Core.Bool.{Bool, true, false, cond}
 use mathlib.Core.List.{List}
 use Prim.Native.Nat.{ℕ, _≤_, _<_}
+use native.Mathlib.Decide.{decLt}
 use native.Mathlib.Omega.{arith}
 use lib.Dec.{ltb}
 use lib.ListN.{length, getD, List·getD-eq-default}
@@ -14,7 +15,8 @@ use Rattle.lend.specs.Rights.{less}
 use Rattle.lend.specs.Slots.{emptySlot, slotAt, withRights, cut}
 use Rattle.lend.specs.Line.{lineOf}
 use Rattle.lend_basics.proofs.Lists.{length-tabulate, tabulate-at, tabulate-past}
-use Rattle.lend_code.specs.Inner.{has, lineHas, rightsOf, leftOf, rightsLeft, slotsWith}
+use Rattle.lend_summary.specs.Counts.{lostCount, lostOf}
+use Rattle.lend_code.specs.Inner.{has, lineHas, rightsOf, leftOf, rightsLeft, slotsWith, lossesOf, cutSlots, cutLost}
 
 -- a tabulated list is g everywhere, where g past the end is what a read there gives
 at-all : {A : Type 0} (n : ℕ) (g : ℕ → A) (d : A) → ((k : ℕ) → n ≤ k → d ≡ g k) → (k : ℕ) → getD (tabulate n g) k d ≡ g k
@@ -82,3 +84,20 @@ cut-slots z b set d k e h =
     by-test : (t : Bool) → withRights (leftOf (slotAt b k .rights) t d) (slotAt b k) ≡ cond t (cut d (slotAt b k)) (withRights (slotAt b k .rights) (slotAt b k))
     by-test true = refl
     by-test false = refl
+
+-- what they have lost is lost between the tables
+pub lost-slots : (z : Sizes) (b : List Slot) (set : List Bool) (d : ℕ) → length b ≡ slotCount z
+    → cutLost z b set d ≡ lostOf (slotCount z) b (cutSlots z b set d)
+unfolding cutLost lossesOf cutSlots
+lost-slots z b set d e =
+    ap (λ (f : ℕ → ℕ). lostCount (slotCount z) f (λ k. getD after k 0)) (fun-ext (λ k. rights-at z b k e))
+    ∙ ap (lostCount (slotCount z) (λ k. slotAt b k .rights)) (fun-ext (λ k. left k (decLt k (slotCount z))))
+  where
+    after : List ℕ
+    after = rightsLeft z (rightsOf z b) set d
+
+    left : (k : ℕ) → Dec (k < slotCount z) → getD after k 0 ≡ slotAt (slotsWith z b after) k .rights
+    left k (yes h) = sym (ap (λ (s : Slot). s .rights) (slots-at z b after k h))
+    left k (no h) =
+        List·getD-eq-default after 0 {n = k} (omega (arith, left-long z (rightsOf z b) set d))
+        ∙ sym (ap (λ (s : Slot). s .rights) (List·getD-eq-default (slotsWith z b after) emptySlot {n = k} (omega (arith, slots-long z b after))))

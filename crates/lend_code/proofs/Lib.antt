@@ -3,6 +3,7 @@ pub mod Fits
 pub mod Ends
 pub mod QuickLines
 pub mod Columns
+pub mod Summary
 pub mod Cache
 pub mod SoundCode
 pub mod Withdrawals

@@ -14,6 +14,8 @@ use Rattle.lend.specs.declared.Place.{Place}
 use Rattle.lend.specs.Sizes.{Sizes, slotCount, inPool}
 use Rattle.lend.specs.Lists.{tabulate}
 use Rattle.lend.specs.Slots.{emptySlot, frameSlot}
+use Rattle.lend.specs.declared.Count.{Count}
+use Rattle.lend.specs.Summary.{noCount}
 use Rattle.lend.specs.Tables.{Tables}
 use Rattle.lend.specs.Cache.{emptyPlace}
 use Rattle.lend.specs.Start.{startBoard}
@@ -80,7 +82,7 @@ module _ (z : Sizes) where
       at j l (no h) = w .left j (omega arith) ∙ (getD-replicate (slotCount z) j emptySlot emptySlot l ∙ sym (rw (le-ltb j (z .pages) (omega arith))))
 
 -- the start board, piece by piece
-pub start-made : (z : Sizes) (slots : List Slot) (live : List Bool) (x : Place) → slots ≡ startSlots z → live ≡ tabulate (z .spaces) (λ s. leb s 1) → x ≡ emptyPlace
-    → _≡_ {A = Tables} (record { slots = slots; live = live; places = replicate (z .places) x; next = 0 }) (startBoard z)
+pub start-made : (z : Sizes) (slots : List Slot) (live : List Bool) (x : Place) (c : Count) → slots ≡ startSlots z → live ≡ tabulate (z .spaces) (λ s. leb s 1) → x ≡ emptyPlace → c ≡ noCount
+    → _≡_ {A = Tables} (record { slots = slots; live = live; places = replicate (z .places) x; next = 0; summary = replicate (z .pages) c }) (startBoard z)
 unfolding startSlots startBoard
-start-made z slots live x hs hl hx = rw (hs, hl, hx)
+start-made z slots live x c hs hl hx hc = rw (hs, hl, hx, hc)

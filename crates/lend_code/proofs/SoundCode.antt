@@ -4,27 +4,33 @@ use mathlib.Core.Bool.{Bool, true, false, not, _&&_, _||_}
 use mathlib.Core.List.{List}
 use Prim.Native.Nat.{ℕ, zero, suc, _≤_, _<_}
 use native.Mathlib.Omega.{arith}
-use lib.Dec.{T, eqb, ltb, eqb→eq, ltb→lt}
-use lib.ListN.{length, getD}
+use lib.Dec.{T, eqb, ltb, leb, eqb→eq, ltb→lt, leb→le}
+use lib.ListN.{length, getD, replicate, List·getD-eq-default}
+use native.Mathlib.Decide.{decLt}
 use borrow.Author.Tests.{eq-eqb}
 use Rattle.lend.specs.declared.Link.{Link}
 use Rattle.lend.specs.declared.Link.the-variants.{Nothing, Frame, Page}
 use Rattle.lend.specs.declared.Place.{Place}
 use Rattle.lend.specs.declared.Slot.{Slot}
+use Rattle.lend.specs.declared.Count.{Count}
 use Rattle.lend.specs.Sizes.{Sizes, slotCount, key, inPool}
 use Rattle.lend.specs.Lists.{every, tabulate}
-use Rattle.lend.specs.Slots.{Table, slotAt, held, linked}
+use Rattle.lend.specs.Slots.{Table, emptySlot, slotAt, held, linked}
 use Rattle.lend.specs.Tables.{Tables, Shaped, tableOf, alive}
 use Rattle.lend.specs.Line.{frameOf}
 use Rattle.lend.specs.Cache.{filled, pageNamed, placeAt, placeFor}
-use Rattle.lend.specs.SoundTest.{slotTest, lineTest, pagesTest, namesTest, placeTest, isEmptyPlace, cacheTest, shapeTest, soundTest}
-use Rattle.lend_basics.proofs.Bools.{and-l, and-r, and-i, is-true, is-false, true-is, same-test, positive}
+use Rattle.lend.specs.SoundTest.{slotTest, lineTest, pagesTest, namesTest, placeTest, isEmptyPlace, cacheTest, shapeTest, sameCounts, summaryTest, soundTest}
+use Rattle.lend.specs.Sound.{Sound}
+use Rattle.lend.specs.Summary.{noCount, summaryOf}
+use Rattle.lend_basics.proofs.Bools.{and-l, and-r, and-i, is-true, is-false, true-is, same-test, differ, positive}
 use Rattle.lend_basics.proofs.Lists.{each, every-of, tabulate-at}
 use Rattle.lend_basics.proofs.Loops.{Tested, tested-not, tested-all}
-use Rattle.lend_code.specs.Inner.{insideOf, Fitting, quickLine, rightsOf, placeFits, placeOk, placesFit}
+use Rattle.lend_sound.proofs.SoundTest.{sound-test}
+use Rattle.lend_code.specs.Inner.{insideOf, Fitting, quickLine, rightsOf, Framed, summaryWith, placeFits, placeOk, placesFit, rightsFound, framesFound, countsFound}
 use Rattle.lend_code.proofs.Fits.{key-in, inside-key}
 use Rattle.lend_code.proofs.QuickLines.{quick-lines}
 use Rattle.lend_code.proofs.Columns.{rights-at}
+use Rattle.lend_code.proofs.Summary.{summary-by}
 
 -- two tests that agree below n agree on every number below n
 every-same : (n : ℕ) (t u : ℕ → Bool) → ((k : ℕ) → k < n → t k ≡ u k) → every n t ≡ every n u
@@ -52,39 +58,145 @@ module _ (z : Sizes) (rights frames : List ℕ) (c : List Place) where
   unfolding placesFit
   places-all i t h = sym (tested-all (λ j. placeOk z rights frames c j (placeAt c j)) (z .places) i t h)
 
+-- ── the pages ────────────────────────────────────────────────────────────
+module _ (z : Sizes) (b : List Slot) (live : List Bool) (long : length b ≡ slotCount z) where
+  -- the frames of all pages are those of the held ones
+  pub all-framed : (frames : List ℕ) → frames ≡ tabulate (slotCount z) (λ k. frameOf z (slotAt b) k) → Framed z (slotAt b) frames
+  all-framed frames f = record { right = λ k t. rw f (tabulate-at (λ k. frameOf z (slotAt b) k) (slotCount z) k 0 (in-table k t (decLt k (slotCount z)))) }
+    where
+      in-table : (k : ℕ) → T (held (slotAt b k)) → Dec (k < slotCount z) → k < slotCount z
+      in-table k t (yes l) = l
+      in-table k t (no l) = absurd (rw (List·getD-eq-default b emptySlot {n = k} (omega (arith, long))) at t)
+
+  -- a slot that does not fit
+  pub pages-unfit : every (slotCount z) (slotTest z live (slotAt b)) ≡ false → false ≡ pagesTest z live (slotAt b)
+  unfolding pagesTest
+  pages-unfit e = sym (is-false (pagesTest z live (slotAt b)) (λ h. let t : T (every (slotCount z) (slotTest z live (slotAt b))) = search (and-l, and-r) depth 12 in (rw e at t)))
+
+  -- the slots fit
+  module _ (fits : every (slotCount z) (slotTest z live (slotAt b)) ≡ true) where
+    passes : (k : ℕ) → k < slotCount z → T (slotTest z live (slotAt b) k)
+    passes k h = each (slotCount z) (slotTest z live (slotAt b)) (true-is _ fits) k h
+
+    -- a page with a right is held
+    pub right-held : (k : ℕ) → k < slotCount z → 1 ≤ slotAt b k .rights → T (held (slotAt b k))
+    unfolding slotTest
+    right-held k h r = go (slotAt b k .link) refl
+      where
+        go : (l : Link) → slotAt b k .link ≡ l → T (linked (slotAt b k .link))
+        go Nothing e =
+            let t = rw e at (passes k h) in
+            let n : slotAt b k .rights ≡ 0 = eqb→eq (slotAt b k .rights) 0 (and-r (not (inPool z k)) (eqb (slotAt b k .rights) 0) t) in
+            absurd (omega arith)
+        go (Frame i) e = rw e tt
+        go (Page s p) e = rw e tt
+
+    -- and a held page has one
+    held-right : (k : ℕ) → k < slotCount z → T (held (slotAt b k)) → 1 ≤ slotAt b k .rights
+    unfolding slotTest
+    held-right k h t = go (slotAt b k .link) refl t
+      where
+        go : (l : Link) → slotAt b k .link ≡ l → T (linked l) → 1 ≤ slotAt b k .rights
+        go Nothing e n = absurd n
+        go (Frame i) e n =
+            let x = rw e at (passes k h) in
+            let r : slotAt b k .rights ≡ 7 = eqb→eq (slotAt b k .rights) 7 (and-r (inPool z k && eqb i k) (eqb (slotAt b k .rights) 7) x) in
+            omega arith
+        go (Page s p) e n =
+            let x = rw e at (passes k h) in
+            let r : T (leb 1 (slotAt b k .rights)) = search (and-l, and-r) depth 12 in
+            leb→le 1 (slotAt b k .rights) r
+
+    by-rights : (k : ℕ) → held (slotAt b k) ≡ not (eqb (slotAt b k .rights) 0)
+    by-rights k = go (decLt k (slotCount z))
+      where
+        go : Dec (k < slotCount z) → held (slotAt b k) ≡ not (eqb (slotAt b k .rights) 0)
+        go (yes h) =
+            same-test (held (slotAt b k)) (not (eqb (slotAt b k .rights) 0))
+            (λ t. let l = held-right k h t in differ (slotAt b k .rights) 0 (λ e. omega arith))
+            (λ t. right-held k h (positive (slotAt b k .rights) t))
+        go (no h) = rw (List·getD-eq-default b emptySlot {n = k} (omega (arith, long)))
+
+    -- so by the rights and frames of all pages the summary is counted as by the table
+    counts-are : (rights frames : List ℕ) → rights ≡ rightsOf z b → frames ≡ tabulate (slotCount z) (λ k. frameOf z (slotAt b) k)
+        → summaryWith z rights frames ≡ summaryOf z (slotAt b)
+    counts-are rights frames r f = summary-by z (slotAt b) by-rights rights frames (λ k. rw r (rights-at z b k long)) (all-framed frames f)
+
+    module _ (one : 1 ≤ z .spaces) where
+      lines-are : every (slotCount z) (quickLine z (slotAt b)) ≡ every (slotCount z) (λ k. not (held (slotAt b k)) || lineTest z (slotAt b) k)
+      lines-are = quick-lines z b (all-fit z live b fits) one
+
+      -- a line of the wrong kind
+      pub pages-unrooted : every (slotCount z) (quickLine z (slotAt b)) ≡ false → false ≡ pagesTest z live (slotAt b)
+      unfolding pagesTest
+      pages-unrooted e = sym (is-false (pagesTest z live (slotAt b)) (λ h.
+          let t : T (every (slotCount z) (λ k. not (held (slotAt b k)) || lineTest z (slotAt b) k)) = search (and-l, and-r) depth 12 in
+          (rw (sym lines-are ∙ e) at t)))
+
+      -- every line is good, and the first two spaces are live
+      pub pages-fit : every (slotCount z) (quickLine z (slotAt b)) ≡ true → (alive live 0 && alive live 1) ≡ true → true ≡ pagesTest z live (slotAt b)
+      unfolding pagesTest
+      pages-fit good begun = sym (rw (begun, fits, ← lines-are, good))
+
+  -- one of the first two spaces is not live
+  pub pages-dead : (alive live 0 && alive live 1) ≡ false → false ≡ pagesTest z live (slotAt b)
+  unfolding pagesTest
+  pages-dead e = sym (rw e)
+
+-- every slot of sound pages fits
+all-fits : (z : Sizes) (b : List Slot) (live : List Bool) → pagesTest z live (slotAt b) ≡ true → every (slotCount z) (slotTest z live (slotAt b)) ≡ true
+unfolding pagesTest
+all-fits z b live fit = let t : T (pagesTest z live (slotAt b)) = true-is _ fit in is-true _ (search (and-l, and-r) depth 12)
+
+-- ── what is found of the pages ───────────────────────────────────────────
+-- in the order in which `examine` gives it
+abbrev pub Found : Sizes → List Slot → List Bool → Bool → List ℕ → List ℕ → List Count → Type 0
+Found z b live fit rights frames counts =
+    (fit ≡ pagesTest z live (slotAt b)) × ((rights ≡ rightsFound z b live) × ((frames ≡ framesFound z b live) × (counts ≡ countsFound z b live)))
+
+module _ (z : Sizes) (b : List Slot) (live : List Bool) (fit : Bool) (rights frames : List ℕ) (counts : List Count) where
+  -- of pages that are not sound, zeros
+  pub none-found : false ≡ pagesTest z live (slotAt b) → fit ≡ false → rights ≡ replicate (slotCount z) 0 → frames ≡ replicate (slotCount z) 0
+      → counts ≡ replicate (z .pages) noCount → Found z b live fit rights frames counts
+  unfolding rightsFound framesFound countsFound
+  none-found e f r s c = (f ∙ e, (r ∙ rw (← e), (s ∙ rw (← e), c ∙ rw (← e))))
+
+  -- of sound pages, what the passes over them made
+  pub all-found : length b ≡ slotCount z → true ≡ pagesTest z live (slotAt b) → fit ≡ true → rights ≡ rightsOf z b
+      → frames ≡ tabulate (slotCount z) (λ k. frameOf z (slotAt b) k) → counts ≡ summaryWith z (rightsOf z b) frames → Found z b live fit rights frames counts
+  unfolding rightsFound framesFound countsFound
+  all-found long e f r s c = (f ∙ e, (r ∙ rw (← e), (s ∙ rw (← e), (c ∙ counts-are z b live long (all-fits z b live (sym e)) (rightsOf z b) frames refl s) ∙ rw (← e))))
+
+  -- where they fit, it is all that is asked of them
+  module _ (found : Found z b live fit rights frames counts) (t : fit ≡ true) where
+    sound-pages : pagesTest z live (slotAt b) ≡ true
+    sound-pages = sym (found .0) ∙ t
+
+    pub found-rights : rights ≡ rightsOf z b
+    unfolding rightsFound
+    found-rights = found .1 .0 ∙ rw sound-pages
+
+    pub found-frames : frames ≡ tabulate (slotCount z) (λ k. frameOf z (slotAt b) k)
+    unfolding framesFound
+    found-frames = found .1 .1 .0 ∙ rw sound-pages
+
+    pub found-counts : counts ≡ summaryOf z (slotAt b)
+    unfolding countsFound
+    found-counts = found .1 .1 .1 ∙ rw sound-pages
+
+-- ── the board ────────────────────────────────────────────────────────────
 module _ (z : Sizes) (b : Tables) (shape : Shaped z b) where
   shape-true : shapeTest z b ≡ true
   shape-true = rw (eq-eqb (length (b .slots)) (slotCount z) (shape .slots-long), eq-eqb (length (b .live)) (z .spaces) (shape .live-long), eq-eqb (length (b .places)) (z .places) (shape .places-long))
 
-  -- a slot that does not fit
-  pub unfit : every (slotCount z) (slotTest z (b .live) (tableOf b)) ≡ false → false ≡ soundTest z b
-  unfolding soundTest pagesTest
-  unfit e = sym (is-false (soundTest z b) (λ h. let t : T (every (slotCount z) (slotTest z (b .live) (tableOf b))) = search (and-l, and-r) depth 12 in (rw e at t)))
+  -- pages that are not sound
+  pub unfit : pagesTest z (b .live) (tableOf b) ≡ false → false ≡ soundTest z b
+  unfolding soundTest
+  unfit e = sym (is-false (soundTest z b) (λ h. let t : T (pagesTest z (b .live) (tableOf b)) = search (and-l, and-r) depth 12 in (rw e at t)))
 
-  -- the slots fit
-  module _ (fits : every (slotCount z) (slotTest z (b .live) (tableOf b)) ≡ true) (one : 1 ≤ z .spaces) where
-    lines-are : every (slotCount z) (quickLine z (tableOf b)) ≡ every (slotCount z) (λ k. not (held (tableOf b k)) || lineTest z (tableOf b) k)
-    lines-are = quick-lines z (b .slots) (all-fit z (b .live) (b .slots) fits) one
-
-    -- a line of the wrong kind
-    pub unrooted : every (slotCount z) (quickLine z (tableOf b)) ≡ false → false ≡ soundTest z b
-    unfolding soundTest pagesTest
-    unrooted e = sym (is-false (soundTest z b) (λ h.
-        let t : T (every (slotCount z) (λ k. not (held (tableOf b k)) || lineTest z (tableOf b) k)) = search (and-l, and-r) depth 12 in
-        (rw (sym lines-are ∙ e) at t)))
-
-    -- a page with a right is held
-    right-held : (k : ℕ) → k < slotCount z → 1 ≤ tableOf b k .rights → T (held (tableOf b k))
-    unfolding slotTest
-    right-held k h r = go (tableOf b k .link) refl
-      where
-        go : (l : Link) → tableOf b k .link ≡ l → T (linked (tableOf b k .link))
-        go Nothing e =
-            let t = rw e at (each (slotCount z) (slotTest z (b .live) (tableOf b)) (true-is _ fits) k h) in
-            let n : tableOf b k .rights ≡ 0 = eqb→eq (tableOf b k .rights) 0 (and-r (not (inPool z k)) (eqb (tableOf b k .rights) 0) t) in
-            absurd (omega arith)
-        go (Frame i) e = rw e tt
-        go (Page s p) e = rw e tt
+  module _ (fit : pagesTest z (b .live) (tableOf b) ≡ true) where
+    fits : every (slotCount z) (slotTest z (b .live) (tableOf b)) ≡ true
+    fits = all-fits z (b .slots) (b .live) fit
 
     -- by the rights and frames of all pages a place is tested as by the table
     module _ (rights frames : List ℕ) (r : rights ≡ rightsOf z (b .slots)) (f : frames ≡ tabulate (slotCount z) (λ k. frameOf z (tableOf b) k)) (q : Place) where
@@ -113,7 +225,7 @@ module _ (z : Sizes) (b : Tables) (shape : Shaped z b) where
               let y′ : T (eqb (q .rights) (tableOf b (pageNamed z q) .rights)) = rw (at-rights (is-true _ s) (is-true _ p)) at y in
               let e : q .rights ≡ tableOf b (pageNamed z q) .rights = eqb→eq _ _ y′ in
               let o : 1 ≤ tableOf b (pageNamed z q) .rights = rw (← e) (positive (q .rights) a) in
-              let g : T (held (tableOf b (pageNamed z q))) = right-held (pageNamed z q) (key-in z (q .space) (q .page) (ltb→lt _ _ s) (ltb→lt _ _ p)) o in
+              let g : T (held (tableOf b (pageNamed z q))) = right-held z (b .slots) (b .live) (shape .slots-long) fits (pageNamed z q) (key-in z (q .space) (q .page) (ltb→lt _ _ s) (ltb→lt _ _ p)) o in
               search and-i depth 14
 
           back : T (namesTest z (tableOf b) q) → T (placeFits z (getD rights (insideOf z (pageNamed z q)) 0) (getD frames (insideOf z (pageNamed z q)) 0) q)
@@ -131,17 +243,21 @@ module _ (z : Sizes) (b : Tables) (shape : Shaped z b) where
       unfolding placeOk
       place-ok c i = ap (λ (t : Bool). isEmptyPlace q || (t && eqb (placeFor (q .space) (q .page) c) i)) names-fits
 
-    -- every line is good: live spaces, places and the next place are left to ask
+    -- the places, the next place and the counts are left to ask
     pub rest-sound : (rights frames : List ℕ) → rights ≡ rightsOf z (b .slots) → frames ≡ tabulate (slotCount z) (λ k. frameOf z (tableOf b) k)
-        → every (slotCount z) (quickLine z (tableOf b)) ≡ true
-        → (alive (b .live) 0 && alive (b .live) 1 && placesFit z rights frames (b .places) && ltb (b .next) (z .places)) ≡ soundTest z b
-    unfolding soundTest pagesTest cacheTest placesFit
-    rest-sound rights frames r f good =
-        ap (λ (t : Bool). alive (b .live) 0 && alive (b .live) 1 && t && ltb (b .next) (z .places))
+        → (counts : List Count) → counts ≡ summaryOf z (tableOf b)
+        → (placesFit z rights frames (b .places) && ltb (b .next) (z .places) && sameCounts z (b .summary) counts) ≡ soundTest z b
+    unfolding soundTest cacheTest summaryTest placesFit
+    rest-sound rights frames r f counts c =
+        ap (λ (s : List Count). placesFit z rights frames (b .places) && ltb (b .next) (z .places) && sameCounts z (b .summary) s) c
+        ∙ ap (λ (t : Bool). t && ltb (b .next) (z .places) && sameCounts z (b .summary) (summaryOf z (tableOf b)))
         (every-same (z .places) _ (λ i. placeTest z (tableOf b) (b .places) i (placeAt (b .places) i)) (λ i l. place-ok rights frames r f (placeAt (b .places) i) (b .places) i))
-        ∙ rw (shape-true, fits, ← lines-are, good, shape .places-long) (regroup (alive (b .live) 0) (alive (b .live) 1) _ _)
-      where
-        regroup : (a c d e : Bool) → (a && c && d && e) ≡ (a && c && true && true && (d && e))
-        regroup true true d e = refl
-        regroup true false d e = refl
-        regroup false c d e = refl
+        ∙ rw (shape-true, fit, shape .places-long)
+
+-- a sound board's frames were found
+pub sound-framed : (z : Sizes) (b : Tables) → Sound z b → Framed z (tableOf b) (framesFound z (b .slots) (b .live))
+unfolding framesFound soundTest
+sound-framed z b sound =
+    let h = sound-test z b sound in
+    let t : T (pagesTest z (b .live) (tableOf b)) = search (and-l, and-r) depth 12 in
+    all-framed z (b .slots) (b .live) (sound .shape .slots-long) _ (rw (is-true (pagesTest z (b .live) (tableOf b)) t))

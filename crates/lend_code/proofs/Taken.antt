@@ -10,11 +10,13 @@ use lib.ListN.{length, getD, length-set}
 use lib.Seq.{ext-getD, getD-set-same, getD-set-other}
 use borrow.Author.Tests.{eq-eqb}
 use Rattle.lend.specs.declared.Place.{Place}
+use Rattle.lend.specs.declared.Count.{Count}
 use Rattle.lend.specs.declared.Slot.{Slot}
 use Rattle.lend.specs.Sizes.{Sizes, slotCount, key}
 use Rattle.lend.specs.Lists.{count}
 use Rattle.lend.specs.Slots.{Table, emptySlot, slotAt, withRights, cut}
 use Rattle.lend.specs.Tables.{Tables, alone, tableOf}
+use Rattle.lend.specs.Summary.{summaryOf}
 use Rattle.lend.specs.Cache.{emptyPlace, filled, pageNamed, placeAt, names, placeFor, dropped, droppedWhere, lostRight}
 use Rattle.lend.specs.Sound.{SoundPages, SoundCache, Sound}
 use Rattle.lend.specs.Withdraw.{flushed}
@@ -29,8 +31,8 @@ use Rattle.lend_laws.proofs.CacheDrops.{at-dropped, length-dropped}
 use Rattle.lend_laws.proofs.Flush.{length-flushed, flushed-at}
 use Rattle.lend_laws.proofs.Emptied.{rights-count}
 use Rattle.lend_lending.proofs.Insert.{lowest-passes}
-use Rattle.lend_code.specs.Inner.{has, lineHas, rightsOf, rightsLeft, lostAll, lostIn, onlyPage}
-use Rattle.lend_code.specs.Lending.{cutSlots, takenOf}
+use Rattle.lend_code.specs.Inner.{has, lineHas, rightsOf, rightsLeft, lostAll, lostIn, onlyPage, cutSlots}
+use Rattle.lend_code.specs.Lending.{takenOf}
 use Rattle.lend_code.proofs.Columns.{slots-long, rights-at, cut-slots}
 use Rattle.lend_code.proofs.Withdrawals.{reached-has}
 
@@ -146,19 +148,20 @@ module _ (z : Sizes) (b : Tables) (sound : Sound z b) (new : List Slot) (u v : �
       ap (λ (t : ℕ → Bool). droppedWhere z t (dropped (b .places) (placeFor u v (b .places)))) lost-same
       ∙ entry-dropped z (tableOf b) (b .places) (b .next) (sound .cache) (lostRight (tableOf b) (slotAt new)) u v hv
 
-  pub taken-is : takenOf z b new u v ≡ record { reply = emptiedReply (b .slots) new; state = alone (withSlots z b new (λ k. eqb k (key z u v))) }
+  pub taken-is : (counts : List Count) → counts ≡ summaryOf z (slotAt new)
+      → takenOf z b new counts u v ≡ record { reply = emptiedReply (b .slots) new; state = alone (withSlots z b new (λ k. eqb k (key z u v))) }
   unfolding takenOf
-  taken-is = λ i. record {
+  taken-is counts e = λ i. record {
     reply = record { number = 0; emptied = lost-are i; address = 0; hit = false; links = 0; byte = 0 };
     state = record {
-      board = record { slots = new; live = b .live; places = places-are i; next = b .next };
+      board = record { slots = new; live = b .live; places = places-are i; next = b .next; summary = e i };
       memory = alone b .memory;
     };
   }
 
 -- what the code makes, piece by piece
-pub taken-made : (z : Sizes) (b : Tables) (new : List Slot) (u v place n : ℕ) (before after : List ℕ)
+pub taken-made : (z : Sizes) (b : Tables) (new : List Slot) (counts : List Count) (u v place n : ℕ) (before after : List ℕ)
     → place ≡ placeFor u v (b .places) → before ≡ rightsOf z (b .slots) → after ≡ rightsOf z new → n ≡ lostAll z before after
-    → _≡_ {A = Outcome} (record { reply = plainReply 0 n; state = alone (record { slots = new; live = b .live; places = droppedWhere z (lostIn before after) (dropped (b .places) place); next = b .next }) }) (takenOf z b new u v)
+    → _≡_ {A = Outcome} (record { reply = plainReply 0 n; state = alone (record { slots = new; live = b .live; places = droppedWhere z (lostIn before after) (dropped (b .places) place); next = b .next; summary = counts }) }) (takenOf z b new counts u v)
 unfolding takenOf
-taken-made z b new u v place n before after hp hb ha hn = rw (hn, ha, hb, hp)
+taken-made z b new counts u v place n before after hp hb ha hn = rw (hn, ha, hb, hp)

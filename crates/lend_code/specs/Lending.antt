@@ -4,17 +4,19 @@ use mathlib.Core.Bool.{Bool, not, _&&_, _||_}
 use mathlib.Core.List.{List, [], _∷_}
 use lib.Dec.{eqb}
 use Rattle.lend.specs.declared.Slot.{Slot}
+use Rattle.lend.specs.declared.Count.{Count}
 use Rattle.lend.specs.Sizes.{Sizes, slotCount, spaceOf}
 use Rattle.lend.specs.Rights.{within}
 use Rattle.lend.specs.Lists.{any, some}
 use Rattle.lend.specs.Slots.{slotAt, held}
 use Rattle.lend.specs.Tables.{Tables, alone, alive}
-use Rattle.lend.specs.Line.{lineOf}
+use Rattle.lend.specs.Line.{lineOf, frameOf}
 use Rattle.lend.specs.Cache.{placeFor, dropped, droppedWhere}
 use Rattle.lend.specs.SoundTest.{soundTest}
 use Rattle.lend.specs.Numbers.{Case, _when_, firstOf, noSpace, noPage, badRights}
 use Rattle.lend.specs.Calls.{Outcome, plainReply}
-use Rattle.lend_code.specs.Inner.{has, insideOf, lineHas, rightsOf, rightsLeft, slotsWith, lostAll, lostIn, onlyPage, spacePages}
+use Rattle.lend_summary.specs.Counts.{lessAt}
+use Rattle.lend_code.specs.Inner.{has, insideOf, lineHas, rightsOf, lostAll, lostIn, onlyPage, spacePages, moreIn}
 
 -- a page of the table on the line of page k is in the space
 unfoldable pub meetsIn : Sizes → List Slot → ℕ → ℕ → Bool
@@ -56,13 +58,13 @@ linesNumber z b under giver source taker rights =
     ∷ [])
 
 -- ── what is done ─────────────────────────────────────────────────────────
--- the slots when the pages of the set have lost d
-unfoldable pub cutSlots : Sizes → List Slot → List Bool → ℕ → List Slot
-cutSlots z b set d = slotsWith z b (rightsLeft z (rightsOf z b) set d)
+-- the counts when page t, which lost so much, is linked to page g with the rights r
+unfoldable pub linkedIn : Sizes → List Slot → List Count → ℕ → ℕ → Count → ℕ → List Count
+linkedIn z b counts t g lost r = moreIn (lessAt counts (frameOf z (slotAt b) t) lost) (frameOf z (slotAt b) g) r
 
--- the board gets new slots: the taker's entry goes, and that of each page that lost a right
-unfoldable pub takenOf : Sizes → Tables → List Slot → ℕ → ℕ → Outcome
-takenOf z b new to at =
+-- the board gets new slots and counts: the taker's entry goes, and that of each page that lost a right
+unfoldable pub takenOf : Sizes → Tables → List Slot → List Count → ℕ → ℕ → Outcome
+takenOf z b new counts to at =
     let before : List ℕ = rightsOf z (b .slots) in
     let after : List ℕ = rightsOf z new in
     record {
@@ -72,5 +74,6 @@ takenOf z b new to at =
         live = b .live;
         places = droppedWhere z (lostIn before after) (dropped (b .places) (placeFor to at (b .places)));
         next = b .next;
+        summary = counts;
       });
     }

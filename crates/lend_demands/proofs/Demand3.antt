@@ -252,6 +252,7 @@ end-so z b cs = record {
   link-stays = λ k h. ap (λ (s : Slot). s .link) (at k) ∙ right-link (less (tableOf b k .rights) (taken z b cs k)) (tableOf b k .link) (rw (ap (λ (s : Slot). s .rights) (at k)) at h);
   entry-stays = λ i e. place i ∙ rw (eq-eqb (less (tableOf b (page i) .rights) (taken z b cs (page i))) (tableOf b (page i) .rights) (sym (ap (λ (s : Slot). s .rights) (at (page i))) ∙ e));
   entry-goes = λ i h. place i ∙ rw (ne-eqb (less (tableOf b (page i) .rights) (taken z b cs (page i))) (tableOf b (page i) .rights) (λ e. h (ap (λ (s : Slot). s .rights) (at (page i)) ∙ e)));
+  counted = refl;
   live-stays = refl;
   next-stays = refl;
 }

@@ -17,6 +17,7 @@ use Rattle.lend.specs.Rights.{less, within}
 use Rattle.lend.specs.Slots.{Table, emptySlot, slotAt, held, cut, eachSlot}
 use Rattle.lend.specs.Tables.{Tables, State, alone, tableOf}
 use Rattle.lend.specs.Line.{onLine, below}
+use Rattle.lend.specs.Summary.{summaryOf}
 use Rattle.lend.specs.Cache.{emptyPlace, pageNamed, droppedWhere, lostRight}
 use Rattle.lend.specs.Sound.{SoundPages, Sound}
 use Rattle.lend.specs.SoundTest.{soundTest}
@@ -91,6 +92,7 @@ less-same z b d e h = λ i. record {
   live = b .live;
   places = drops-same z (losesSome (tableOf b) d) (losesSome (tableOf b) e) (λ k. ap (λ (s : Slot). not (eqb (s .rights) (tableOf b k .rights))) (h k)) (b .places) i;
   next = b .next;
+  summary = summaryOf z (slotAt (slots i));
 }
   where
     slots : eachSlot (λ k s. cut (d k) s) (b .slots) ≡ eachSlot (λ k s. cut (e k) s) (b .slots)
@@ -107,6 +109,7 @@ less-twice z b sound d e hd he = λ i. record {
   live = b .live;
   places = drops-twice z (losesSome f d) (losesSome (slotAt one) e) (losesSome f (λ k. join (d k) (e k))) parts (b .places) i;
   next = b .next;
+  summary = summaryOf z (slotAt (slots i));
 }
   where
     f : Table
@@ -140,6 +143,7 @@ less-nothing z b sound = λ i. record {
   live = b .live;
   places = drops-none z (losesSome (tableOf b) (λ k. 0)) (λ k. rw (eq-eqb (less (tableOf b k .rights) 0) (tableOf b k .rights) (less-zero (tableOf b k .rights) (rights-small z (b .live) (tableOf b) (sound .pages) k)))) (b .places) i;
   next = b .next;
+  summary = (sound .summary ∙ ap (λ (n : List Slot). summaryOf z (slotAt n)) slots) i;
 }
   where
     slots : b .slots ≡ eachSlot (λ k s. cut 0 s) (b .slots)
@@ -155,6 +159,7 @@ slots-less z b sound d hd new long is = λ i. record {
   live = b .live;
   places = drops-same z (λ k. lostRight (tableOf b) (slotAt new) k || noTaker k) (losesSome (tableOf b) d) tests (b .places) i;
   next = b .next;
+  summary = summaryOf z (slotAt (slots i));
 }
   where
     tests : (k : ℕ) → (lostRight (tableOf b) (slotAt new) k || noTaker k) ≡ losesSome (tableOf b) d k

@@ -7,9 +7,10 @@ use lib.Dec.{eqb}
 use lib.Bits.{bitOr}
 use Rattle.lend.specs.Sizes.{Sizes, key}
 use Rattle.lend.specs.Rights.{less}
-use Rattle.lend.specs.Slots.{Table, emptySlot, cut, eachSlot}
+use Rattle.lend.specs.Slots.{Table, emptySlot, slotAt, cut, eachSlot}
 use Rattle.lend.specs.Tables.{Tables, alone, tableOf}
 use Rattle.lend.specs.Line.{below}
+use Rattle.lend.specs.Summary.{summaryOf}
 use Rattle.lend.specs.Cache.{emptyPlace, pageNamed, placeAt, droppedWhere}
 use Rattle.lend.specs.Calls.{Call, Create, Delete, Unmap, Flush, Map, Grant, Translate, Load, Store, number}
 
@@ -60,13 +61,14 @@ abbrev pub losesSome : Table → (ℕ → ℕ) → ℕ → Bool
 losesSome f d k = not (eqb (less (f k .rights) (d k)) (f k .rights))
 
 -- the board when each page k has lost the rights of d k: it is empty where no right is left, else its link is unchanged; a cached
--- translation stays in its place exactly when its page lost nothing; nothing else moves
+-- translation stays in its place exactly when its page lost nothing; the summary counts what is left; nothing else moves
 unfoldable pub lessBoard : Sizes → Tables → (ℕ → ℕ) → Tables
 lessBoard z b d = record {
   slots = eachSlot (λ k s. cut (d k) s) (b .slots);
   live = b .live;
   places = droppedWhere z (losesSome (tableOf b) d) (b .places);
   next = b .next;
+  summary = summaryOf z (slotAt (eachSlot (λ k s. cut (d k) s) (b .slots)));
 }
 
 -- where the list ends
@@ -87,6 +89,8 @@ pub record Ends (z : Sizes) (b e : Tables) (cs : List Call) : Type 0 where
   -- and goes when it lost something
   pub entry-goes : (i : ℕ) → (tableOf e (pageNamed z (placeAt (b .places) i)) .rights ≡ tableOf b (pageNamed z (placeAt (b .places) i)) .rights → ⊥)
       → placeAt (e .places) i ≡ emptyPlace
+  -- the summary counts the end pages
+  pub counted : e .summary ≡ summaryOf z (tableOf e)
   -- nothing else moves
   pub live-stays : e .live ≡ b .live
   pub next-stays : e .next ≡ b .next

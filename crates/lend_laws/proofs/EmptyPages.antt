@@ -96,7 +96,7 @@ board-same z b sound new e = ap (λ (n : List Slot). withSlots z b n noTaker) e 
         (λ k. rw (same-not-lost z (b .live) (tableOf b) (sound .pages) k))
 
     own : withSlots z b (b .slots) noTaker ≡ b
-    own = λ i. record { slots = b .slots; live = b .live; places = kept i; next = b .next }
+    own = λ i. record { slots = b .slots; live = b .live; places = kept i; next = b .next; summary = sym (sound .summary) i }
 
 -- ── the call is done ─────────────────────────────────────────────────────
 -- a number in range is not past the last one

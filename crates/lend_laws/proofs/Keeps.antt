@@ -19,6 +19,7 @@ use Rattle.lend.specs.Withdraw.{unmapped, flushed}
 use Rattle.lend.specs.Spaces.{wiped}
 use Rattle.lend.specs.Calls.{Call, Create, Delete, Unmap, Flush, Map, Grant, Translate, Load, Store, number, withSlots, noTaker, withLive, boardAfter, step}
 use Rattle.lend_basics.proofs.Rights.{within-zero-l}
+use Rattle.lend_sound.proofs.Summary.{summary-long}
 use Rattle.lend_laws.proofs.Withdraw.{cut-zero, withdraw, Closed, withdraw-sound, link-kept}
 use Rattle.lend_laws.proofs.Flush.{length-unmapped, length-flushed, unmap-closed, flush-closed, unmapped-is, flushed-is}
 use Rattle.lend_laws.proofs.Spaces.{out-of-pool, length-wiped, wiped-closed, wiped-is, wiped-gone, create-live, delete-live}
@@ -56,12 +57,14 @@ module _ (z : Sizes) (b : Tables) (sound : Sound z b) where
       slots-long = len ∙ sound .shape .slots-long;
       live-long = sound .shape .live-long;
       places-long = length-dropped z (λ k. lostRight (tableOf b) (slotAt new) k || noTaker k) (b .places) ∙ sound .shape .places-long;
+      summary-long = summary-long z (slotAt new);
     };
     pages = subst (λ (g : Table). SoundPages z (b .live) g) (sym (w .is))
         (withdraw-sound z (b .live) (tableOf b) (sound .pages) (w .amounts) (w .closed));
     cache = subst
         (λ (g : Table). SoundCache z g (droppedWhere z (λ k. lostRight (tableOf b) g k || noTaker k) (b .places)) (b .next)) (sym (w .is))
         (withdraw-cache z (b .live) (tableOf b) (sound .pages) (w .amounts) (w .closed) (b .places) (b .next) (sound .cache));
+    summary = refl;
   }
 
   -- a board whose live list changes at one space
@@ -71,9 +74,11 @@ module _ (z : Sizes) (b : Tables) (sound : Sound z b) where
       slots-long = sound .shape .slots-long;
       live-long = length-set (b .live) s is ∙ sound .shape .live-long;
       places-long = sound .shape .places-long;
+      summary-long = sound .shape .summary-long;
     };
     pages = pages;
     cache = sound .cache;
+    summary = sound .summary;
   }
 
 -- ── the four calls ───────────────────────────────────────────────────────

@@ -4,13 +4,15 @@ use mathlib.Core.Bool.{Bool, false}
 use mathlib.Core.List.{List, [], _∷_}
 use mathlib.Core.Option.{none, some}
 use mathlib.Core.Logic.{_⊎_, inl, inr}
-use Prim.Native.Nat.{ℕ}
+use Prim.Native.Nat.{ℕ, _≤_, _<_}
 use native.Mathlib.Nat.{le-of-eq}
+use native.Mathlib.Decide.{decLt}
 use native.Mathlib.Omega.{arith}
 use lib.Dec.{T, eqb, eqb→eq, eqb-refl}
 use lib.ListN.{length}
 use Rattle.lend.specs.declared.Link.{Link}
 use Rattle.lend.specs.declared.Link.the-variants.{Nothing, Frame, Page}
+use Rattle.lend.specs.declared.Slot.{Slot}
 use Rattle.lend.specs.Sizes.{Sizes, key}
 use Rattle.lend.specs.Lists.{member}
 use Rattle.lend.specs.Slots.{Table, linked, held}
@@ -61,3 +63,46 @@ module _ (z : Sizes) (live : List Bool) (f : Table) (len : length live ≡ z .sp
   -- the frame of a held page is held by a page on its line
   pub frame-held : (k : ℕ) → T (held (f k)) → (q : ℕ) × T (onLine z f k q) × (f q .link ≡ Frame (frameOf z f k))
   frame-held k h = line-frame (the-line z live f len sound k) h
+
+  -- which is one of the frames
+  pub frame-in : (k : ℕ) → T (held (f k)) → frameOf z f k < z .pages
+  frame-in k h = let r = frame-held k h in go (r .0) (r .2) (decLt (r .0) (z .pages))
+    where
+      go : (q : ℕ) → f q .link ≡ Frame (frameOf z f k) → Dec (q < z .pages) → frameOf z f k < z .pages
+      go q e (yes l) =
+          let n : Frame q ≡ Frame (frameOf z f k) = sym (ap (λ (s : Slot). s .link) (sound .pool q l)) ∙ e in
+          let same : q ≡ frameOf z f k = cc in
+          omega arith
+      go q e (no l) = absurd (sound .no-frame q (frameOf z f k) (omega arith) e)
+
+  -- the frame of an empty page is 0
+  frame-none : (k : ℕ) → f k .link ≡ Nothing → frameOf z f k ≡ 0
+  unfolding frame
+  frame-none k e =
+      let a : Line z f k (k ∷ []) = ends {k = k} (rw e) in
+      frame-fuel a (z .spaces) 1 (spaces-some z live f len sound) (le-of-eq refl) ∙ rw e
+
+  -- so where there is a frame, that of every page is one of them
+  pub frame-there : 1 ≤ z .pages → (k : ℕ) → frameOf z f k < z .pages
+  frame-there some-page k = go (f k .link) refl
+    where
+      go : (x : Link) → f k .link ≡ x → frameOf z f k < z .pages
+      go Nothing e = rw (frame-none k e) some-page
+      go (Frame i) e = frame-in k (rw e tt)
+      go (Page s p) e = frame-in k (rw e tt)
+
+  line-one-frame : {k : ℕ} {l : List ℕ} → Line z f k l → (q : ℕ) → T (member q l) → frameOf z f k ≡ frameOf z f q
+  line-one-frame {k} (ends e) q m = go (or-cases (eqb k q) false m)
+    where
+      go : T (eqb k q) ⊎ ⊥ → frameOf z f k ≡ frameOf z f q
+      go (inl t) = ap (frameOf z f) (eqb→eq k q t)
+      go (inr t) = absurd t
+  line-one-frame {k} (climbs {q = j} {l = l} e a) q m = go (λ t. line-one-frame a q t) (or-cases (eqb k q) (member q l) m)
+    where
+      go : (T (member q l) → frameOf z f j ≡ frameOf z f q) → T (eqb k q) ⊎ T (member q l) → frameOf z f k ≡ frameOf z f q
+      go rest (inl t) = ap (frameOf z f) (eqb→eq k q t)
+      go rest (inr t) = frame-up k j e ∙ rest t
+
+  -- all pages on a line have the frame of its page
+  pub same-frame : (k q : ℕ) → T (onLine z f k q) → frameOf z f k ≡ frameOf z f q
+  same-frame k q m = line-one-frame (the-line z live f len sound k) q m

@@ -179,10 +179,12 @@ looked-sound z b sound space address l h = go (cached space (addressPage address
         slots-long = sound .shape .slots-long;
         live-long = sound .shape .live-long;
         places-long = length-set (b .places) (goesTo (b .places) (b .next)) q ∙ sound .shape .places-long;
+        summary-long = sound .shape .summary-long;
       };
       pages = sound .pages;
       cache = insert-sound z (tableOf b) (b .places) (b .next) q (sound .shape .places-long)
           (entry-names z b sound space (addressPage address) (page-in z address l) h) full e (sound .cache);
+      summary = sound .summary;
     }
 
 -- ── what an accepted translate, load or store has shown ──────────────────

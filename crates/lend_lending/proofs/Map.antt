@@ -27,6 +27,7 @@ use Rattle.lend_basics.proofs.Bools.{not-not, not-or, is-true, is-false, positi
 use Rattle.lend_basics.proofs.Lists.{any-of}
 use Rattle.lend_basics.proofs.Rights.{less-all}
 use Rattle.lend_sound.proofs.Lines.{space-of-key, line-self}
+use Rattle.lend_sound.proofs.Summary.{summary-long}
 use Rattle.lend_laws.proofs.Withdraw.{rights-small, cut-zero, withdraw, Closed, withdraw-sound, meets-kept}
 use Rattle.lend_laws.proofs.CacheDrops.{length-dropped, drops-sound, none-lost, names-kept}
 use Rattle.lend_laws.proofs.Flush.{length-flushed, flush-closed, flushed-is}
@@ -124,9 +125,11 @@ taken-sound z b sound new t len pages keeps = record {
     slots-long = len ∙ sound .shape .slots-long;
     live-long = sound .shape .live-long;
     places-long = length-dropped z drop (b .places) ∙ sound .shape .places-long;
+    summary-long = summary-long z (slotAt new);
   };
   pages = pages;
   cache = drops-sound z (tableOf b) (slotAt new) drop (b .places) (b .next) still (sound .cache);
+  summary = refl;
 }
   where
     drop : ℕ → Bool
@@ -179,7 +182,8 @@ module _ (z : Sizes) (live : List Bool) (b : List Slot) (len : length live ≡ z
   giver-still : T (held (mid (key z s p)))
   giver-still = subst (λ (x : Slot). T (held x)) (sym giver-same) (m .giver-held)
 
-  linkable : Linkable z live mid (key z u v) s p r
+  -- what the flush leaves may be linked
+  pub linkable : Linkable z live (withdraw amount (slotAt b)) (key z u v) s p r
   unfolding mid
   linkable = record {
     taker-empty = taker-gone;

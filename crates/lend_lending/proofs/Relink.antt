@@ -52,7 +52,7 @@ module _ (z : Sizes) (live : List Bool) (f : Table) (len : length live ≡ z .sp
   held-line = is-line-same z f (relink t x f) (λ k. T (held (f k))) held-link held-up
 
   -- and its frame
-  held-frame : (n k : ℕ) → T (held (f k)) → frame z (relink t x f) n k ≡ frame z f n k
+  pub held-frame : (n k : ℕ) → T (held (f k)) → frame z (relink t x f) n k ≡ frame z f n k
   held-frame = frame-same z f (relink t x f) (λ k. T (held (f k))) held-link held-up
 
   -- so a place of the cache still names its page

@@ -109,6 +109,7 @@ module _ (z w : Sizes) (fits : Fits z w) (some-page : 1 ≤ z .pages) (b : Table
             live = wideLive z w (b .live);
             places = inserted-wide w (b .places) fit r (b .next) q i;
             next = next-wide w (b .places) fit r (b .next) i;
+            summary = wide z w b .summary;
           })
 
   -- ── the cache after a call ─────────────────────────────────────────────

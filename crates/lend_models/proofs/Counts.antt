@@ -8,6 +8,7 @@ use lib.Dec.{T}
 use Rattle.lend.specs.Sizes.{Sizes, slotCount, key}
 use Rattle.lend.specs.Lists.{some, count}
 use Rattle.lend_basics.proofs.Bools.{same-test}
+use Rattle.lend_basics.proofs.Counting.{count-none, count-same}
 use Rattle.lend_basics.proofs.Lists.{some-of, some-one}
 use Rattle.lend_lending.proofs.Map.{key-in}
 use Rattle.lend_models.specs.Embedding.{Fits, shared}
@@ -23,18 +24,6 @@ count-add m (suc n) t = rw (add-suc m n, count-add m n t) (go (t (m + n)) (count
     go : (b : Bool) (x y : ℕ) → cond b (suc (x + y)) (x + y) ≡ x + cond b (suc y) y
     go true x y = omega arith
     go false x y = refl
-
--- tests that agree below n count the same
-count-same : (n : ℕ) (t u : ℕ → Bool) → ((k : ℕ) → k < n → u k ≡ t k) → count n u ≡ count n t
-unfolding count
-count-same zero t u h = refl
-count-same (suc n) t u h = rw (h n (omega arith), count-same n t u (λ k l. h k (omega arith)))
-
--- a test that fails everywhere counts nothing
-count-none : (n : ℕ) (u : ℕ → Bool) → ((k : ℕ) → k < n → u k ≡ false) → count n u ≡ 0
-unfolding count
-count-none zero u h = refl
-count-none (suc n) u h = rw (h n (omega arith)) (count-none n u (λ k l. h k (omega arith)))
 
 -- below 0 there is nothing to count
 count-zero : (t u : ℕ → Bool) (m n : ℕ) → m ≡ 0 → n ≡ 0 → count m u ≡ count n t

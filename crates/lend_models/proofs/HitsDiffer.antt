@@ -7,7 +7,8 @@ use Rattle.lend.specs.Rights.{within}
 use Rattle.lend.specs.Lists.{every, tabulateFrom}
 use Rattle.lend.specs.Line.{line, frame, links}
 use Rattle.lend.specs.Cache.{placeFor, cached, emptyIn, goesTo, nextAfter}
-use Rattle.lend.specs.SoundTest.{slotTest, pagesTest, cacheTest, soundTest}
+use Rattle.lend.specs.SoundTest.{slotTest, pagesTest, cacheTest, soundTest, summaryTest}
+use Rattle.lend.specs.Summary.{summaryTo}
 use Rattle.lend.specs.Start.{startBoard}
 use Rattle.lend.specs.Translate.{physical, linksTo, hit, looked}
 use Rattle.lend.specs.Calls.{cases, number, boardAfter, memoryAfter, report, step, steps}
@@ -16,12 +17,12 @@ use Rattle.lend_models.specs.Witness.{nineLooks, eighteenLooks, replyAft
 
 -- after looks at nine pages, page 0 misses on Entry and hits on Premium
 pub entry-misses : (replyAfter entry nineLooks ≡ looksUp false) × (replyAfter premium nineLooks ≡ looksUp true)
-unfolding startBoard soundTest pagesTest cacheTest slotTest every line frame links within tabulateFrom placeFor cached emptyIn goesTo nextAfter physical linksTo hit looked cases number boardAfter memoryAfter report step steps
+unfolding startBoard soundTest summaryTest summaryTo pagesTest cacheTest slotTest every line frame links within tabulateFrom placeFor cached emptyIn goesTo nextAfter physical linksTo hit looked cases number boardAfter memoryAfter report step steps
 entry-misses = (refl, refl)
 
 -- after looks at sixteen pages, at page 0 again and at a seventeenth, page 0 hits on Entry and misses on Premium
 pub premium-misses : (replyAfter entry eighteenLooks ≡ looksUp true) × (replyAfter premium eighteenLooks ≡ looksUp false)
-unfolding startBoard soundTest pagesTest cacheTest slotTest every line frame links within tabulateFrom placeFor cached emptyIn goesTo nextAfter physical linksTo hit looked cases number boardAfter memoryAfter report step steps
+unfolding startBoard soundTest summaryTest summaryTo pagesTest cacheTest slotTest every line frame links within tabulateFrom placeFor cached emptyIn goesTo nextAfter physical linksTo hit looked cases number boardAfter memoryAfter report step steps
 premium-misses = (refl, refl)
 
 -- both lists stay within Entry's limits, so both models can be asked

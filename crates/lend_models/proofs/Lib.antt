@@ -6,6 +6,7 @@ pub mod WideSound
 pub mod WideSlots
 pub mod WideMemory
 pub mod Counts
+pub mod WideSummary
 pub mod WideStart
 pub mod SameNumber
 pub mod SameCommand

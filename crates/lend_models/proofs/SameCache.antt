@@ -84,7 +84,13 @@ module _ (z w : Sizes) (fits : Fits z w) (some-page : 1 ≤ z .pages) (rest : Li
         let e = wide-agrees .embeds-again in
         let k = cache-same room in
         λ i. record {
-          board = record { slots = e .slots-same i; live = e .live-same i; places = k .places-same i; next = k .next-same i };
+          board = record {
+            slots = e .slots-same i;
+            live = e .live-same i;
+            places = k .places-same i;
+            next = k .next-same i;
+            summary = wide-agrees .same-summary i;
+          };
           memory = e .memory-same i;
         }
 

@@ -1,4 +1,5 @@
--- The same command on both sizes: the same number, emptied, address, links and byte, and states that embed again (00; 02, M-100).
+-- The same command on both sizes: the same number, emptied, address, links and byte, states that embed again, and the same counts (00; 02,
+-- M-100, M-106).
 use mathlib.Core.Path.{_≡_, refl, sym, subst, ap, _∙_}
 use mathlib.Core.Bool.{Bool, true, false, not, _&&_, cond}
 use mathlib.Core.List.{List, [], _∷_, _++_}
@@ -6,12 +7,14 @@ use Prim.Native.Nat.{ℕ, _≤_, _<_}
 use native.Mathlib.Decide.{ℕ-discrete}
 use native.Mathlib.Omega.{arith}
 use lib.Dec.{T, ltb→lt}
-use lib.ListN.{length, getD, set}
+use lib.ListN.{length, getD, set, List·getD-eq-default}
 use Rattle.lend.specs.declared.Place.{Place}
 use Rattle.lend.specs.declared.Slot.{Slot}
+use Rattle.lend.specs.declared.Count.{Count}
 use Rattle.lend.specs.Sizes.{Sizes, slotCount, key, memoryBytes}
 use Rattle.lend.specs.Slots.{slotAt, held}
 use Rattle.lend.specs.Tables.{Tables, State, tableOf}
+use Rattle.lend.specs.Summary.{noCount, countAt}
 use Rattle.lend.specs.Sound.{Sound}
 use Rattle.lend.specs.Emptied.{emptied}
 use Rattle.lend.specs.Withdraw.{unmapped, flushed}
@@ -26,12 +29,13 @@ use Rattle.lend_lending.proofs.Map.{key-in, mapped-sound}
 use Rattle.lend_lending.proofs.Grant.{GrantFine, grant-fine, lent-by, parent-lendable}
 use Rattle.lend_lending.proofs.Insert.{page-in, translate-fine, load-fine, store-fine}
 use Rattle.lend_lending.proofs.Always.{step-sound}
-use Rattle.lend_models.specs.Embedding.{Fits, wideSlots, wideLive}
+use Rattle.lend_models.specs.Embedding.{Fits, wideSlots, wideLive, wideSummary}
 use Rattle.lend_models.specs.Agreement.{inLimits, allInLimits, isPage, isAddress, takesMemory, anyMemory, moreBytes, Embeds, Agree, AllAgree}
 use Rattle.lend_models.proofs.Wide.{widen, key-widened, wide-at, wide-page, length-wide}
 use Rattle.lend_models.proofs.WidePages.{two-spaces}
 use Rattle.lend_models.proofs.WideSlots.{rest-same, wide-unmapped, wide-flushed, wide-wiped, wide-mapped, wide-granted, wide-live-set}
 use Rattle.lend_models.proofs.Counts.{count-wide}
+use Rattle.lend_models.proofs.WideSummary.{wide-count, same-summary}
 use Rattle.lend_models.proofs.WideMemory.{physical-in, byte-same, store-same}
 use Rattle.lend_models.proofs.SameNumber.{grown, frame-same, links-same, number-same, limit-space, limit-page, limit-address}
 
@@ -237,6 +241,13 @@ module _ (z w : Sizes) (fits : Fits z w) (some-page : 1 ≤ z .pages) (rest : Li
         ∙ (emptied-same z w fits some-page (st .board .slots) (step z st c .state .board .slots) (sound .shape .slots-long)
         ∙ sym (emptied-counts z st c)))
 
+    -- it leaves the same counts
+    summary-after : step w large c .state .board .summary ≡ wideSummary w (step z st c .state .board .summary)
+    unfolding large
+    summary-after =
+        same-summary z w fits some-page (step z st c .state .board) (step w large c .state .board) (step-sound z some-page st sound c)
+        (step-sound w (wide-page z w fits some-page) large sound-large c) (embeds-after .slots-same)
+
     -- the two steps agree
     agree-grown : Agree z w rest (step z st c) (step w (grown z w rest st places next) c)
     unfolding large
@@ -247,14 +258,21 @@ module _ (z w : Sizes) (fits : Fits z w) (some-page : 1 ≤ z .pages) (rest : Li
       same-links = either (λ (x y : Outcome). y .reply .links ≡ x .reply .links) (λ e. links-after c h e) refl;
       same-byte = either (λ (x y : Outcome). y .reply .byte ≡ x .reply .byte) (λ e. byte-after c h e) refl;
       embeds-again = embeds-after;
+      same-summary = summary-after;
     }
 
 -- ── the theorems ─────────────────────────────────────────────────────────
 -- a state that embeds another is that state grown, with a cache of its own
-embeds-is : (z w : Sizes) (rest : List ℕ) (small large : State) → Embeds z w rest small large
-    → large ≡ grown z w rest small (large .board .places) (large .board .next)
-embeds-is z w rest small large e = λ i. record {
-  board = record { slots = e .slots-same i; live = e .live-same i; places = large .board .places; next = large .board .next };
+embeds-is : (z w : Sizes) → Fits z w → 1 ≤ z .pages → (rest : List ℕ) (small large : State) → Sound z (small .board) → Sound w (large .board)
+    → Embeds z w rest small large → large ≡ grown z w rest small (large .board .places) (large .board .next)
+embeds-is z w fits some-page rest small large sound sound-large e = λ i. record {
+  board = record {
+    slots = e .slots-same i;
+    live = e .live-same i;
+    places = large .board .places;
+    next = large .board .next;
+    summary = same-summary z w fits some-page (small .board) (large .board) sound sound-large (e .slots-same) i;
+  };
   memory = e .memory-same i;
 }
 
@@ -263,8 +281,27 @@ pub same-command : (z w : Sizes) → Fits z w → 1 ≤ z .pages → (rest : Lis
     → Embeds z w rest small large → (c : Call) → T (inLimits z c) → (T (takesMemory c) → length rest ≡ moreBytes z w)
     → Agree z w rest (step z small c) (step w large c)
 same-command z w fits some-page rest small large sound sound-large embeds c h more =
-    subst (λ (x : State). Sound w (x .board) → Agree z w rest (step z small c) (step w x c)) (sym (embeds-is z w rest small large embeds))
+    subst (λ (x : State). Sound w (x .board) → Agree z w rest (step z small c) (step w x c)) (sym (embeds-is z w fits some-page rest small large sound sound-large embeds))
     (λ s. agree-grown z w fits some-page rest small sound (large .board .places) (large .board .next) s c h more) sound-large
+
+-- M-106: after it the frames that both models have, have the same counts, and the larger model's other frames have none
+pub same-counts : (z w : Sizes) → Fits z w → 1 ≤ z .pages → (rest : List ℕ) (small large : State) → Sound z (small .board) → Sound w (large .board)
+    → Embeds z w rest small large → (c : Call) → T (inLimits z c) → (T (takesMemory c) → length rest ≡ moreBytes z w)
+    → ((i : ℕ) → i < z .pages → countAt (step w large c .state .board .summary) i ≡ countAt (step z small c .state .board .summary) i)
+    × ((i : ℕ) → z .pages ≤ i → countAt (step w large c .state .board .summary) i ≡ noCount)
+same-counts z w fits some-page rest small large sound sound-large embeds c h more =
+    (λ i l. at i, λ i l. at i ∙ List·getD-eq-default counts noCount {n = i} (omega (arith, long)))
+  where
+    counts : List Count
+    counts = step z small c .state .board .summary
+
+    long : length counts ≡ z .pages
+    long = step-sound z some-page small sound c .shape .summary-long
+
+    at : (i : ℕ) → countAt (step w large c .state .board .summary) i ≡ countAt counts i
+    at i =
+        ap (λ (s : List Count). countAt s i) (same-command z w fits some-page rest small large sound sound-large embeds c h more .same-summary)
+        ∙ wide-count w counts (omega (arith, fits .pages-fit, long)) i
 
 -- and so does every list of such calls
 pub same-commands : (z w : Sizes) → Fits z w → 1 ≤ z .pages → (rest : List ℕ) (small large : State) → Sound z (small .board) → Sound w (large .board)

@@ -25,7 +25,7 @@ use Rattle.lend.specs.Calls.{Call, Create, Delete, Unmap, Flush, Map, Grant, Tr
 use Rattle.lend_basics.proofs.Bools.{and-l, and-r, is-true, and-false}
 use Rattle.lend_sound.proofs.SoundTest.{sound-test}
 use Rattle.lend_lending.proofs.Insert.{page-in}
-use Rattle.lend_models.specs.Embedding.{Fits, wideSlots, wideLive}
+use Rattle.lend_models.specs.Embedding.{Fits, wideSlots, wideLive, wideSummary}
 use Rattle.lend_models.specs.Agreement.{inLimits, isPage, isAddress, takesMemory, moreBytes}
 use Rattle.lend_models.proofs.Wide.{widen, key-widened, space-of-widened, wide-live-at}
 use Rattle.lend_models.proofs.WidePages.{wideTable, two-spaces, slot-widened, lender-widened}
@@ -144,7 +144,13 @@ module _ (z w : Sizes) (fits : Fits z w) (some-page : 1 ≤ z .pages) (live : Li
 -- a state of the smaller sizes at the larger ones, with any cache
 abbrev pub grown : Sizes → Sizes → List ℕ → State → List Place → ℕ → State
 grown z w rest st places next = record {
-  board = record { slots = wideSlots z w (st .board .slots); live = wideLive z w (st .board .live); places = places; next = next };
+  board = record {
+    slots = wideSlots z w (st .board .slots);
+    live = wideLive z w (st .board .live);
+    places = places;
+    next = next;
+    summary = wideSummary w (st .board .summary);
+  };
   memory = st .memory ++ rest;
 }
 

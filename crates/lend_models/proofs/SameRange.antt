@@ -26,6 +26,7 @@ use Rattle.lend_models.specs.Agreement.{inLimits, isPage, takesMemory, E
 use Rattle.lend_models.specs.RangeAgreement.{isNil, pagesInside, namesSame, isRange, rangeInLimits, RangeAgree}
 use Rattle.lend_models.proofs.Wide.{wide-page}
 use Rattle.lend_models.proofs.SameNumber.{space-same, live-same}
+use Rattle.lend_models.proofs.WideSummary.{same-summary}
 use Rattle.lend_models.proofs.SameCommand.{emptied-same, same-command}
 
 -- ── one range ────────────────────────────────────────────────────────────
@@ -324,6 +325,7 @@ module _ (z w : Sizes) (fits : Fits z w) (some-page : 1 ≤ z .pages) (rest : Li
     same-offset = t .same-offset;
     no-offset = t .no-offset;
     embeds-again = t .embeds;
+    same-summary = same-summary z w fits some-page (p .state .board) (q .state .board) (t .sound-small) (t .sound-large) (t .embeds .slots-same);
   }
 
   -- and one that does not
@@ -335,6 +337,7 @@ module _ (z w : Sizes) (fits : Fits z w) (some-page : 1 ≤ z .pages) (rest : Li
     same-offset = λ e. refl;
     no-offset = λ e. absurd (f e);
     embeds-again = embeds;
+    same-summary = same-summary z w fits some-page (small .board) (large .board) sound sound-large (embeds .slots-same);
   }
 
   -- the two calls agree

@@ -1,40 +1,24 @@
 -- Memory that goes on with more bytes: below the smaller model's end nothing changes, and a sound board's addresses stay there.
-use mathlib.Core.Path.{_≡_, sym, ap, _∙_}
-use mathlib.Core.Bool.{Bool}
+use mathlib.Core.Path.{_≡_, sym, _∙_}
 use mathlib.Core.List.{List, _++_}
 use Prim.Native.Nat.{ℕ, _+_, _*_, _%_, _≤_, _<_}
-use native.Mathlib.Decide.{decLt}
 use native.Mathlib.Omega.{arith}
 use lib.Dec.{T, eqb, eqb→eq}
 use lib.ListN.{length, getD, set, length-append, List·getD-append}
 use lib.Seq.{set-append-left}
 use borrow.Author.Tests.{eq-eqb}
-use Rattle.lend.specs.declared.Link.the-variants.{Frame}
-use Rattle.lend.specs.declared.Slot.{Slot}
 use Rattle.lend.specs.Sizes.{Sizes, pageBytes, memoryBytes}
-use Rattle.lend.specs.Slots.{Table, held}
+use Rattle.lend.specs.Slots.{held}
 use Rattle.lend.specs.Tables.{Tables, tableOf}
 use Rattle.lend.specs.Line.{frameOf}
-use Rattle.lend.specs.Sound.{SoundPages, Sound}
+use Rattle.lend.specs.Sound.{Sound}
 use Rattle.lend.specs.Translate.{pageAt, physical}
 use Rattle.lend_basics.proofs.Bools.{same-test}
-use Rattle.lend_lending.proofs.Frames.{frame-held}
+use Rattle.lend_lending.proofs.Frames.{frame-in}
 use Rattle.lend_models.specs.Embedding.{Fits}
 use Rattle.lend_models.specs.Agreement.{moreBytes}
 
 -- ── addresses ────────────────────────────────────────────────────────────
--- the frame of a held page is one of the frames
-pub frame-in : (z : Sizes) (live : List Bool) (f : Table) → length live ≡ z .spaces → SoundPages z live f → (k : ℕ) → T (held (f k))
-    → frameOf z f k < z .pages
-frame-in z live f len sound k h = let r = frame-held z live f len sound k h in go (r .0) (r .2) (decLt (r .0) (z .pages))
-  where
-    go : (q : ℕ) → f q .link ≡ Frame (frameOf z f k) → Dec (q < z .pages) → frameOf z f k < z .pages
-    go q e (yes l) =
-        let n : Frame q ≡ Frame (frameOf z f k) = sym (ap (λ (s : Slot). s .link) (sound .pool q l)) ∙ e in
-        let same : q ≡ frameOf z f k = cc in
-        omega arith
-    go q e (no l) = absurd (sound .no-frame q (frameOf z f k) (omega arith) e)
-
 -- the physical address of a held page lies within the memory of the sizes
 pub physical-in : (z : Sizes) (b : Tables) → Sound z b → (space address : ℕ) → T (held (tableOf b (pageAt z space address)))
     → physical z b space address < memoryBytes z

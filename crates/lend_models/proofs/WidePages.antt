@@ -31,7 +31,7 @@ module _ (z w : Sizes) (fits : Fits z w) (some-page : 1 ≤ z .pages) where
   each-page P is rest k = shared-or-not z w fits some-page k (P k) (λ j l e. subst P e (is j l)) (rest k)
 
   -- a page is in space 0 at both sizes or at none
-  pool-widened : (k : ℕ) → inPool w (widen z w k) ≡ inPool z k
+  pub pool-widened : (k : ℕ) → inPool w (widen z w k) ≡ inPool z k
   pool-widened k = go (decLt k (z .pages))
     where
       go : Dec (k < z .pages) → inPool w (widen z w k) ≡ inPool z k

@@ -11,11 +11,12 @@ use Rattle.lend.specs.Tables.{Tables, tableOf}
 use Rattle.lend.specs.Line.{frameOf}
 use Rattle.lend.specs.Cache.{filled, pageNamed, placeAt}
 use Rattle.lend.specs.Sound.{Names, SoundCache, Sound}
-use Rattle.lend_models.specs.Embedding.{Fits, wide, widePlaces}
+use Rattle.lend_models.specs.Embedding.{Fits, wide, widePlaces, wideSummary}
 use Rattle.lend_models.proofs.Wide.{widen, key-widened, widen-same, length-wide, length-wide-live}
 use Rattle.lend_models.proofs.WidePages.{slot-widened, wide-pages}
 use Rattle.lend_models.proofs.WideLines.{frame-widened}
 use Rattle.lend_models.proofs.WideCache.{length-wide-places, wide-place}
+use Rattle.lend_models.proofs.WideSummary.{length-wide-summary, summary-widened}
 
 module _ (z w : Sizes) (fits : Fits z w) (some-page : 1 ≤ z .pages) (b : Tables) (sound : Sound z b) where
   -- a place of the smaller cache names the same page at both sizes
@@ -67,7 +68,10 @@ module _ (z w : Sizes) (fits : Fits z w) (some-page : 1 ≤ z .pages) (b : Table
       slots-long = length-wide z w fits some-page (b .slots);
       live-long = length-wide-live z w (b .live);
       places-long = length-wide-places w (b .places);
+      summary-long = length-wide-summary w (b .summary);
     };
     pages = wide-pages z w fits some-page (b .live) (b .slots) (sound .shape .live-long) (sound .shape .slots-long) (sound .pages);
     cache = cache-wide;
+    summary = ap (wideSummary w) (sound .summary)
+        ∙ sym (summary-widened z w fits some-page (b .live) (b .slots) (sound .shape .live-long) (sound .shape .slots-long) (sound .pages));
   }

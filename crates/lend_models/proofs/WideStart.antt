@@ -5,19 +5,21 @@ use Prim.Native.Nat.{ℕ, _≤_, _<_}
 use native.Mathlib.Decide.{decLt}
 use native.Mathlib.Omega.{arith}
 use lib.Dec.{leb}
-use lib.ListN.{length, length-replicate, List·getD-eq-default}
+use lib.ListN.{length, length-replicate, getD-replicate, List·getD-eq-default}
 use lib.Seq.{ext-getD}
 use borrow.Author.Tests.{lt-leb}
 use Rattle.lend.specs.Sizes.{Sizes, slotCount, inPool}
 use Rattle.lend.specs.Slots.{emptySlot, frameSlot, slotAt}
 use Rattle.lend.specs.Tables.{alive}
+use Rattle.lend.specs.Summary.{noCount, countAt}
 use Rattle.lend.specs.Cache.{emptyPlace}
 use Rattle.lend.specs.Start.{startBoard}
 use Rattle.lend_basics.proofs.Lists.{length-tabulate}
 use Rattle.lend_sound.proofs.Start.{start-live, start-place, start-pool, start-empty}
-use Rattle.lend_models.specs.Embedding.{Fits, wideSlots, wideLive, widePlaces, wide}
+use Rattle.lend_models.specs.Embedding.{Fits, wideSlots, wideLive, widePlaces, wideSummary, wide}
 use Rattle.lend_models.proofs.Wide.{widen, length-wide, wide-at, wide-rest, widen-pool, widen-out, shared-or-not, length-wide-live, wide-live-at}
 use Rattle.lend_models.proofs.WideCache.{is-wide}
+use Rattle.lend_models.proofs.WideSummary.{length-wide-summary, wide-count}
 
 -- the start board has a slot for each page
 start-slots-long : (z : Sizes) → length (startBoard z .slots) ≡ slotCount z
@@ -29,10 +31,24 @@ start-live-long : (z : Sizes) → length (startBoard z .live) ≡ z .spaces
 unfolding startBoard
 start-live-long z = length-tabulate (λ s. leb s 1) (z .spaces)
 
--- and as many places as its sizes say
+-- as many places as its sizes say
 start-places-long : (z : Sizes) → length (startBoard z .places) ≡ z .places
 unfolding startBoard
 start-places-long z = length-replicate (z .places) emptyPlace
+
+-- a count for each frame
+start-summary-long : (z : Sizes) → length (startBoard z .summary) ≡ z .pages
+unfolding startBoard
+start-summary-long z = length-replicate (z .pages) noCount
+
+-- which is none
+start-count : (z : Sizes) (i : ℕ) → countAt (startBoard z .summary) i ≡ noCount
+unfolding startBoard
+start-count z i = go (decLt i (z .pages))
+  where
+    go : Dec (i < z .pages) → countAt (startBoard z .summary) i ≡ noCount
+    go (yes l) = getD-replicate (z .pages) i noCount noCount l
+    go (no l) = List·getD-eq-default (startBoard z .summary) noCount {n = i} (omega (arith, start-summary-long z))
 
 -- the next place to replace is place 0
 start-next : (z : Sizes) → startBoard z .next ≡ 0
@@ -76,11 +92,18 @@ module _ (z w : Sizes) (fits : Fits z w) (two : 2 ≤ z .spaces) where
           List·getD-eq-default (startBoard z .live) false {n = s} (omega (arith, start-live-long z))
           ∙ sym (start-live w s l ∙ lt-leb s 1 (omega arith))
 
-  -- and no place of the cache is filled
+  -- no place of the cache is filled
   start-places : startBoard w .places ≡ widePlaces w (startBoard z .places)
   start-places =
       is-wide w (startBoard z .places) (startBoard w .places) (omega (arith, fits .places-fit, start-places-long z)) (start-places-long w)
       (λ i. start-place w i ∙ sym (start-place z i))
+
+  -- and no frame has a count
+  start-counts : wideSummary w (startBoard z .summary) ≡ startBoard w .summary
+  start-counts =
+      ext-getD noCount (wideSummary w (startBoard z .summary)) (startBoard w .summary)
+      (length-wide-summary w (startBoard z .summary) ∙ sym (start-summary-long w))
+      (λ i l. wide-count w (startBoard z .summary) (omega (arith, fits .pages-fit, start-summary-long z)) i ∙ (start-count z i ∙ sym (start-count w i)))
 
   -- the start board made wide is the start board
   pub wide-start : 1 ≤ z .pages → wide z w (startBoard z) ≡ startBoard w
@@ -89,4 +112,5 @@ module _ (z w : Sizes) (fits : Fits z w) (two : 2 ≤ z .spaces) where
     live = start-lives i;
     places = sym start-places i;
     next = (start-next z ∙ sym (start-next w)) i;
+    summary = start-counts i;
   }

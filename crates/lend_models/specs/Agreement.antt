@@ -9,7 +9,7 @@ use Rattle.lend.specs.Tables.{Tables, State}
 use Rattle.lend.specs.Cache.{anyEmpty}
 use Rattle.lend.specs.Translate.{hit}
 use Rattle.lend.specs.Calls.{Call, Create, Delete, Unmap, Flush, Map, Grant, Translate, Load, Store, Outcome, number, step}
-use Rattle.lend_models.specs.Embedding.{wide, wideSlots, wideLive}
+use Rattle.lend_models.specs.Embedding.{wide, wideSlots, wideLive, wideSummary}
 
 -- ── the calls ────────────────────────────────────────────────────────────
 -- the numbers of the call lie within the limits of the sizes; rights and a byte know no sizes
@@ -63,7 +63,7 @@ abbrev pub moreBytes : Sizes → Sizes → ℕ
 moreBytes z w = memoryBytes w - memoryBytes z
 
 -- ── the two outcomes ─────────────────────────────────────────────────────
--- the same number, emptied, address, links and byte; and states that embed again
+-- the same number, emptied, address, links and byte; states that embed again; and the same counts for the frames that both have
 pub record Agree (z w : Sizes) (rest : List ℕ) (small large : Outcome) : Type 0 where
   pub same-number : large .reply .number ≡ small .reply .number
   pub same-emptied : large .reply .emptied ≡ small .reply .emptied
@@ -71,6 +71,7 @@ pub record Agree (z w : Sizes) (rest : List ℕ) (small large : Outcome) : Type 
   pub same-links : large .reply .links ≡ small .reply .links
   pub same-byte : large .reply .byte ≡ small .reply .byte
   pub embeds-again : Embeds z w rest (small .state) (large .state)
+  pub same-summary : large .state .board .summary ≡ wideSummary w (small .state .board .summary)
 
 -- two runs of the same calls agree at each of them
 unfoldable pub AllAgree : Sizes → Sizes → List ℕ → State → State → List Call → Type 0

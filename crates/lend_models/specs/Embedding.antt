@@ -5,10 +5,12 @@ use mathlib.Core.List.{List}
 use lib.Dec.{ltb}
 use Rattle.lend.specs.declared.Slot.{Slot}
 use Rattle.lend.specs.declared.Place.{Place}
+use Rattle.lend.specs.declared.Count.{Count}
 use Rattle.lend.specs.Sizes.{Sizes, slotCount, key, spaceOf}
 use Rattle.lend.specs.Lists.{tabulate}
 use Rattle.lend.specs.Slots.{slotAt}
 use Rattle.lend.specs.Tables.{Tables, alive}
+use Rattle.lend.specs.Summary.{countAt}
 use Rattle.lend.specs.Cache.{placeAt}
 use Rattle.lend.specs.Start.{startBoard}
 
@@ -42,10 +44,15 @@ wideLive z w live = tabulate (w .spaces) (λ s. cond (ltb s (z .spaces)) (alive 
 unfoldable pub widePlaces : Sizes → List Place → List Place
 widePlaces w places = tabulate (w .places) (placeAt places)
 
+-- the counts of the smaller board's frames, and none for those after them
+unfoldable pub wideSummary : Sizes → List Count → List Count
+wideSummary w summary = tabulate (w .pages) (countAt summary)
+
 abbrev pub wide : Sizes → Sizes → Tables → Tables
 wide z w b = record {
   slots = wideSlots z w (b .slots);
   live = wideLive z w (b .live);
   places = widePlaces w (b .places);
   next = b .next;
+  summary = wideSummary w (b .summary);
 }

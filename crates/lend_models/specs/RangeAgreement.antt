@@ -6,6 +6,7 @@ use mathlib.Core.List.{List}
 use lib.Dec.{eqb, ltb, leb}
 use Rattle.lend.specs.Sizes.{Sizes}
 use Rattle.lend.specs.Ranges.{isPart, rangeOf, firstPage, pageCount, RangeCall, UnmapRange, FlushRange, MapRange, GrantRange, RangeOutcome}
+use Rattle.lend_models.specs.Embedding.{wideSummary}
 use Rattle.lend_models.specs.Agreement.{Embeds}
 
 -- ── the calls ────────────────────────────────────────────────────────────
@@ -35,7 +36,7 @@ rangeInLimits z (GrantRange from base size to atBase atSize rights) = isRange z 
 
 -- ── the two outcomes ─────────────────────────────────────────────────────
 -- the same number, done and emptied; the same offset where a page or the call is refused, and else each model's number of pages;
--- and states that embed again
+-- states that embed again; and the same counts for the frames that both have
 pub record RangeAgree (z w : Sizes) (rest : List ℕ) (small large : RangeOutcome) : Type 0 where
   pub same-number : large .number ≡ small .number
   pub same-done : large .done ≡ small .done
@@ -43,3 +44,4 @@ pub record RangeAgree (z w : Sizes) (rest : List ℕ) (small large : RangeOutcom
   pub same-offset : (small .number ≡ 0 → ⊥) → large .offset ≡ small .offset
   pub no-offset : small .number ≡ 0 → (small .offset ≡ z .pages) × (large .offset ≡ w .pages)
   pub embeds-again : Embeds z w rest (small .state) (large .state)
+  pub same-summary : large .state .board .summary ≡ wideSummary w (small .state .board .summary)

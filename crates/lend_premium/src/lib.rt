@@ -4,6 +4,7 @@
 pub mod access;
 pub mod board;
 mod finish;
+pub mod frame;
 pub mod lending;
 pub mod listed;
 pub mod ranges;

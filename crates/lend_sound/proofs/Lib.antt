@@ -4,3 +4,4 @@ pub mod Slots
 pub mod SoundTest
 pub mod Start
 pub mod Links
+pub mod Summary

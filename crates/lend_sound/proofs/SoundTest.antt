@@ -20,6 +20,7 @@ use Rattle.lend.specs.Slots.{Table, emptySlot, held}
 use Rattle.lend.specs.Tables.{Tables, Shaped, tableOf, alive}
 use Rattle.lend.specs.Line.{lineOf, frameOf}
 use Rattle.lend.specs.Cache.{emptyPlace, filled, pageNamed, placeAt, names, lowest, placeFor}
+use Rattle.lend.specs.Summary.{summaryOf}
 use Rattle.lend.specs.Sound.{Rooted, SoundPages, Names, SoundCache, Sound}
 use Rattle.lend.specs.SoundTest.{linkTest, lineTest, slotTest, pagesTest, isEmptyPlace, namesTest, placeTest, cacheTest, soundTest, Tells}
 use Rattle.lend_basics.proofs.Bools.{and-l, and-r, and-i, or-l, or-r, or-cases}
@@ -27,6 +28,7 @@ use Rattle.lend_basics.proofs.Lists.{every-of}
 use Rattle.lend_basics.proofs.Lists.{each}
 use Rattle.lend_sound.proofs.Lines.{alive-in, fuel-rooted, held-live, line-reaches, line-once}
 use Rattle.lend_sound.proofs.Places.{lowest-of, filled-in, key-space, key-page}
+use Rattle.lend_sound.proofs.Summary.{summary-long, summary-of-test, test-of-summary}
 use Rattle.lend_sound.proofs.Slots.{held-in, slot-top, slot-frame, slot-pool, slot-no-link, slot-not-live, slot-lent}
 
 -- ── from the test: the pages ─────────────────────────────────────────────
@@ -135,13 +137,18 @@ test-sound z b h = record {
   shape = shape;
   pages = pages-of-test z (b .live) (tableOf b) (shape .live-long) past (search (and-l, and-r) depth 12);
   cache = cache-of-test z (tableOf b) (b .places) (b .next) (search (and-l, and-r) depth 12);
+  summary = counted;
 }
   where
+    counted : b .summary ≡ summaryOf z (tableOf b)
+    counted = summary-of-test z (tableOf b) (b .summary) (search (and-l, and-r) depth 12)
+
     shape : Shaped z b
     shape = record {
       slots-long = eqb→eq (length (b .slots)) (slotCount z) (search (and-l, and-r) depth 12);
       live-long = eqb→eq (length (b .live)) (z .spaces) (search (and-l, and-r) depth 12);
       places-long = eqb→eq (length (b .places)) (z .places) (search (and-l, and-r) depth 12);
+      summary-long = ap length counted ∙ summary-long z (tableOf b);
     }
 
     past : (k : ℕ) → slotCount z ≤ k → tableOf b k ≡ emptySlot
@@ -258,6 +265,7 @@ sound-test z b sound =
     let h2 : T (eqb (length (b .places)) (z .places)) = rw (eq-eqb (length (b .places)) (z .places) (sound .shape .places-long)) tt in
     let h3 = test-of-pages z (b .live) (tableOf b) (sound .shape .live-long) (sound .pages) in
     let h4 = test-of-cache z (tableOf b) (b .places) (b .next) (sound .cache) in
+    let h5 = test-of-summary z (tableOf b) (b .summary) (sound .summary) in
     search and-i depth 14
 
 -- the test computes soundness: at every size and on every board it passes just where the board is sound

@@ -1,24 +1,29 @@
 -- The start board is sound, whatever the sizes.
 use mathlib.Core.Path.{_≡_, sym, ap, _∙_}
-use mathlib.Core.Bool.{false, not, cond}
+use mathlib.Core.Bool.{false, not, _&&_, cond}
 use mathlib.Core.List.{[], _∷_}
 use Prim.Native.Nat.{ℕ, _≤_, _<_}
 use native.Mathlib.Nat.{mul-le-mul-right, div-eq-of-lt}
 use native.Mathlib.Decide.{decLt}
 use native.Mathlib.Omega.{arith}
 use lib.Dec.{T, leb, lit<, lt→ltb, T-not}
+use lib.Seq.{ext-getD}
 use lib.ListN.{replicate, length-replicate, getD-replicate, List·getD-eq-default}
 use borrow.Author.Tests.{lt-ltb, le-ltb}
 use Rattle.lend.specs.declared.Link.the-variants.{Nothing, Frame, Page}
 use Rattle.lend.specs.declared.Slot.{Slot}
 use Rattle.lend.specs.Sizes.{Sizes, entry, premium, slotCount, inPool}
+use Rattle.lend.specs.Rights.{readRight, writeRight, executeRight, within}
 use Rattle.lend.specs.Slots.{emptySlot, frameSlot}
 use Rattle.lend.specs.Tables.{Shaped, tableOf, alive}
 use Rattle.lend.specs.Line.{ends}
 use Rattle.lend.specs.Cache.{emptyPlace, filled, placeAt}
 use Rattle.lend.specs.Sound.{Lent, Rooted, SoundPages, SoundCache, Sound}
 use Rattle.lend.specs.Start.{startBoard}
+use Rattle.lend.specs.Summary.{endsAt, endings, endingsWith, countOf, summaryOf, noCount, countAt}
+use Rattle.lend_sound.proofs.Summary.{summary-long, summary-counts}
 use Rattle.lend_basics.proofs.Bools.{or-l}
+use Rattle.lend_basics.proofs.Counting.{count-none}
 use Rattle.lend_basics.proofs.Lists.{length-tabulate, tabulate-at, tabulate-past}
 
 -- at the start spaces 0 and 1 are live, and no other
@@ -41,6 +46,7 @@ start-shape z = record {
   slots-long = length-tabulate (λ k. cond (inPool z k) (frameSlot k) emptySlot) (slotCount z);
   live-long = length-tabulate (λ s. leb s 1) (z .spaces);
   places-long = length-replicate (z .places) emptyPlace;
+  summary-long = length-replicate (z .pages) noCount;
 }
 
 module _ (z : Sizes) (two : 2 ≤ z .spaces) where
@@ -104,9 +110,38 @@ start-cache z one = record {
   next-in = one;
 }
 
+-- at the start no page outside space 0 is held, so nothing ends at a frame
+start-ends : (z : Sizes) → 2 ≤ z .spaces → (i k : ℕ) → endsAt z (tableOf (startBoard z)) i k ≡ false
+start-ends z two i k = go (decLt k (z .pages))
+  where
+    go : Dec (k < z .pages) → endsAt z (tableOf (startBoard z)) i k ≡ false
+    go (yes l) = rw (lt-ltb k (z .pages) l)
+    go (no l) = rw (le-ltb k (z .pages) (omega arith), start-empty z two k (omega arith))
+
+start-count : (z : Sizes) → 2 ≤ z .spaces → (i : ℕ) → countOf z (tableOf (startBoard z)) i ≡ noCount
+unfolding countOf
+start-count z two i = λ j. record { held = plain j; read = with readRight j; write = with writeRight j; execute = with executeRight j }
+  where
+    plain : endings z (tableOf (startBoard z)) i ≡ 0
+    plain = count-none (slotCount z) (endsAt z (tableOf (startBoard z)) i) (λ k l. start-ends z two i k)
+
+    with : (r : ℕ) → endingsWith z (tableOf (startBoard z)) r i ≡ 0
+    with r = count-none (slotCount z) (λ k. endsAt z (tableOf (startBoard z)) i k && within r (tableOf (startBoard z) k .rights)) (λ k l. rw (start-ends z two i k))
+
+-- its summary is that of its pages
+pub start-summary : (z : Sizes) → 2 ≤ z .spaces → startBoard z .summary ≡ summaryOf z (tableOf (startBoard z))
+unfolding startBoard
+start-summary z two =
+    ext-getD noCount (replicate (z .pages) noCount) (summaryOf z (tableOf (startBoard z)))
+    (length-replicate (z .pages) noCount ∙ sym (summary-long z (tableOf (startBoard z))))
+    (λ i l. at i (omega (arith, length-replicate (z .pages) noCount)))
+  where
+    at : (i : ℕ) → i < z .pages → countAt (replicate (z .pages) noCount) i ≡ countAt (summaryOf z (tableOf (startBoard z))) i
+    at i h = getD-replicate (z .pages) i noCount noCount h ∙ sym (summary-counts z (tableOf (startBoard z)) i h ∙ start-count z two i)
+
 -- where there are spaces 0 and 1 and a place, the start board is sound
 pub start-sound : (z : Sizes) → 2 ≤ z .spaces → 1 ≤ z .places → Sound z (startBoard z)
-start-sound z two one = record { shape = start-shape z; pages = start-pages z two; cache = start-cache z one }
+start-sound z two one = record { shape = start-shape z; pages = start-pages z two; cache = start-cache z one; summary = start-summary z two }
 
 -- Entry's start board is sound
 pub entry-start : Sound entry (startBoard entry)

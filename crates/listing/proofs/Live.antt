@@ -14,7 +14,7 @@ use borrow.Author.Tests.{eq-eqb, ne-eqb, eqb-true, eqb-false}
 use Rattle.lend.specs.Tables.{alive}
 use Rattle.listing.specs.Live.{liveNumber, liveFlags}
 
-flags-length : (n m : ℕ) → length (liveFlags n m) ≡ n
+pub flags-length : (n m : ℕ) → length (liveFlags n m) ≡ n
 unfolding liveFlags
 flags-length zero m = refl
 flags-length (suc n) m = ap suc (flags-length n (m / 2))

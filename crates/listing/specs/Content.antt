@@ -8,8 +8,9 @@ use lib.Dec.{T, ltb}
 use Rattle.lend.specs.declared.Slot.{Slot}
 use Rattle.lend.specs.Sizes.{Sizes, slotCount, key}
 use Rattle.lend.specs.Rights.{allRights}
-use Rattle.lend.specs.Slots.{lentSlot}
+use Rattle.lend.specs.Slots.{lentSlot, slotAt}
 use Rattle.lend.specs.Tables.{Tables}
+use Rattle.lend.specs.Summary.{summaryOf}
 use Rattle.lend.specs.Cache.{emptyPlace}
 use Rattle.lend.specs.Start.{startBoard}
 use Rattle.text.specs.Write.{liveLine, pageLine, heldLine}
@@ -95,13 +96,14 @@ unfoldable pub placed : Sizes → List Slot → List Row → List Slot
 placed z slots [] = slots
 placed z slots (r ∷ rest) = placed z (set slots (rowKey z r) (rowSlot r)) rest
 
--- a board with these slots, the live spaces of a number, and an empty cache
+-- a board with these slots and their summary, the live spaces of a number, and an empty cache
 abbrev pub boardWith : Sizes → List Slot → ℕ → Tables
 boardWith z slots live = record {
   slots = slots;
   live = liveFlags (z .spaces) live;
   places = replicate (z .places) emptyPlace;
   next = 0;
+  summary = summaryOf z (slotAt slots);
 }
 
 -- space 0 holds its frames, the rows are lent, all else is empty
@@ -110,4 +112,4 @@ boardOf z c = boardWith z (placed z (startBoard z .slots) (c .rows)) (c .live)
 
 -- a board with an empty cache and next place 0
 abbrev pub cleared : Sizes → Tables → Tables
-cleared z b = record { slots = b .slots; live = b .live; places = replicate (z .places) emptyPlace; next = 0 }
+cleared z b = record { slots = b .slots; live = b .live; places = replicate (z .places) emptyPlace; next = 0; summary = b .summary }

@@ -3,12 +3,14 @@ use Prim.Native.Nat.{ℕ}
 use mathlib.Core.Path.{_≡_, refl}
 use mathlib.Core.List.{List, [], _∷_, _++_}
 use Prim.Native.String.{String}
+use lib.ListN.{set, replicate}
 use Rattle.lend.specs.Sizes as sizes
 use Rattle.lend.specs.Cache.{placeFor, cached, emptyIn}
 use Rattle.lend.specs.Line.{line, frame}
+use Rattle.lend.specs.Summary.{noCount, summaryTo}
 use Rattle.lend.specs.Lists.{every, some, count, tabulateFrom}
 use Rattle.lend.specs.Rights.{less, within}
-use Rattle.lend.specs.SoundTest.{slotTest, pagesTest, cacheTest, soundTest}
+use Rattle.lend.specs.SoundTest.{slotTest, pagesTest, cacheTest, summaryTest, soundTest}
 use Rattle.lend.specs.Start.{startBoard}
 use Rattle.text.specs.Ascii.{bytes, newline}
 use Rattle.text.specs.Decimal.{decimalIn, decimal, digitOf, firstDigit, oneMoreDigit, numberAt}
@@ -24,13 +26,19 @@ abbrev text : List String → List ℕ
 text [] = []
 text (line ∷ rest) = bytes line ++ newline ∷ text rest
 
+-- the session's listing: two pages that end at frame 5, the second to be read only
+abbrev sessionText : List String
+sessionText = "live=7" ∷ "space=1 page=0 parent=0 at=5 rights=7" ∷ "space=2 page=3 parent=1 at=0 rights=4" ∷ "held=2" ∷ []
+
 abbrev answer : List String → ℕ
 answer t = reading sizes.entry (text t) .number
 
 pub record Corners : Type 0 where
   -- the start board's listing, and the session's
   pub start : reading sizes.entry (bytes "live=3\nheld=0\n") ≡ accepted (startBoard sizes.entry)
-  pub session : answer ("live=7" ∷ "space=1 page=0 parent=0 at=5 rights=7" ∷ "space=2 page=3 parent=1 at=0 rights=4" ∷ "held=2" ∷ []) ≡ 0
+  pub session : answer sessionText ≡ 0
+  -- reading it builds the summary (M-106): frame 5 and no other
+  pub summary : reading sizes.entry (text sessionText) .board .summary ≡ set (replicate (sizes.entry .pages) noCount) 5 (record { held = 2; read = 2; write = 1; execute = 1 })
   -- 17: malformed, missing or extra lines, and numbers out of their fields or not well written
   pub no-bytes : answer [] ≡ 17
   pub newline-missing : reading sizes.entry (bytes "live=3\nheld=0") .number ≡ 17
@@ -56,10 +64,11 @@ pub record Corners : Type 0 where
   pub disorder-first : answer ("live=1" ∷ "held=1" ∷ []) ≡ 18
 
 pub corners : Corners
-unfolding placeFor cached emptyIn line frame every some count tabulateFrom less within slotTest pagesTest cacheTest soundTest startBoard decimalIn decimal digitOf firstDigit oneMoreDigit numberAt keyAt fieldAt oneField threeFields fiveFields lines entry liveNumber liveFlags risingAbove placed boardOf liveFields heldFields pageFields pageFits heldLast restOf contentOf ended said refusal judged reading
+unfolding placeFor cached emptyIn line frame every some count tabulateFrom less within slotTest pagesTest cacheTest soundTest summaryTest summaryTo startBoard decimalIn decimal digitOf firstDigit oneMoreDigit numberAt keyAt fieldAt oneField threeFields fiveFields lines entry liveNumber liveFlags risingAbove placed boardOf liveFields heldFields pageFields pageFits heldLast restOf contentOf ended said refusal judged reading
 corners = record {
   start = refl;
   session = refl;
+  summary = refl;
   no-bytes = refl;
   newline-missing = refl;
   empty-line = refl;

@@ -32,7 +32,7 @@ pub record Listed (z : Sizes) : Type 0 where
   -- reading an accepted listing and writing it gives the same bytes
   pub read-then-written : (s : List ℕ) (b : Tables) → reading z s ≡ accepted b → listingOf z b ≡ s
   -- no two boards share a listing, the cache aside
-  pub same-listing : (b c : Tables) → Sound z b → Sound z c → listingOf z b ≡ listingOf z c → (b .slots ≡ c .slots) × (b .live ≡ c .live)
+  pub same-listing : (b c : Tables) → Sound z b → Sound z c → listingOf z b ≡ listingOf z c → (b .slots ≡ c .slots) × (b .live ≡ c .live) × (b .summary ≡ c .summary)
   -- and a board has one
   pub one-listing : (b : Tables) (s : List ℕ) → reading z s ≡ accepted (cleared z b) → s ≡ listingOf z b
   -- the board that comes back is sound, and with a refusal it is the start board

@@ -58,12 +58,12 @@ always-sound z small s = go (either z s)
 
 -- ── one to one ───────────────────────────────────────────────────────────
 module _ (z : Sizes) (small : Readable z) where
-  -- two sound boards with the same listing have the same pages and the same live spaces
-  pub same-listing : (b c : Tables) → Sound z b → Sound z c → listingOf z b ≡ listingOf z c → (b .slots ≡ c .slots) × (b .live ≡ c .live)
+  -- two sound boards with the same listing have the same pages, the same live spaces and the same summary
+  pub same-listing : (b c : Tables) → Sound z b → Sound z c → listingOf z b ≡ listingOf z c → (b .slots ≡ c .slots) × (b .live ≡ c .live) × (b .summary ≡ c .summary)
   same-listing b c v w e =
       let q : accepted (cleared z b) ≡ accepted (cleared z c) =
       sym (written-then-read z small b v) ∙ ap (reading z) e ∙ written-then-read z small c w in
-      (ap (λ (a : Answer). a .board .slots) q, ap (λ (a : Answer). a .board .live) q)
+      (ap (λ (a : Answer). a .board .slots) q, ap (λ (a : Answer). a .board .live) q, ap (λ (a : Answer). a .board .summary) q)
 
   -- a text that is read as a board's pages is the text that the board writes
   pub one-listing : (b : Tables) (s : List ℕ) → reading z s ≡ accepted (cleared z b) → s ≡ listingOf z b

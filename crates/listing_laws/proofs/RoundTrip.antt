@@ -5,9 +5,8 @@ use mathlib.Core.Bool.{Bool, true, false, not, _&&_, cond}
 use mathlib.Core.Logic.{_⊎_, inl, inr}
 use mathlib.Core.List.{List, _∷_}
 use native.Mathlib.Omega.{arith}
-use native.Mathlib.Decide.{decLt}
 use native.Mathlib.Nat.{mul-le-mul-right, eq-or-lt-of-le, le-of-suc-le-suc, le-div-iff-mul-le, div-lt-iff-lt-mul, mod-lt}
-use lib.ListN.{length, set, length-set, replicate, length-replicate, getD-replicate, List·getD-eq-default}
+use lib.ListN.{length, set, length-set, replicate, length-replicate}
 use lib.Seq.{ext-getD, getD-set-same, getD-set-other}
 use lib.Dec.{T, ltb, lt→ltb}
 use Rattle.lend_basics.proofs.Bools.{and-r, and-i}
@@ -19,6 +18,7 @@ use Rattle.lend.specs.Sizes.{Sizes, slotCount, inPool}
 use Rattle.lend.specs.Lists.{count}
 use Rattle.lend.specs.Slots.{Table, emptySlot, held, linked, slotAt}
 use Rattle.lend.specs.Tables.{Tables, tableOf}
+use Rattle.lend.specs.Summary.{summaryOf}
 use Rattle.lend.specs.Cache.{emptyPlace, filled, placeAt}
 use Rattle.lend.specs.Sound.{Lent, Sound}
 use Rattle.lend.specs.Start.{startBoard}
@@ -30,6 +30,7 @@ use Rattle.listing.specs.Read.{accepted, reading}
 use Rattle.listing.proofs.Live.{flags-of-number, number-of-flags, number-most}
 use Rattle.listing.proofs.Writing.{none-counted}
 use Rattle.listing.proofs.Said.{Readable}
+use Rattle.listing.proofs.Judging.{empty-at}
 use Rattle.listing_laws.proofs.Answers.{reads, taken}
 use Rattle.listing_laws.proofs.Rows.{parentSpace, parentPage, rowAt, rowsFrom, pages-rows, rows-few, rows-counted, key-of-page, placed-length, rows-back}
 
@@ -159,29 +160,22 @@ rows-rise z f (suc n) k m h = go (held (f k)) (rows-rise z f n (suc k) k (omega 
     go true a c = rw (key-of-page z k) (and-i (ltb m k) (risingAbove z k (rowsFrom z f (suc k) n)) (lt→ltb m k h) a)
     go false a c = c
 
--- every place of a cleared cache is empty
-cleared-place : (n i : ℕ) → placeAt (replicate n emptyPlace) i ≡ emptyPlace
-cleared-place n i = go (decLt i n)
-  where
-    go : Dec (i < n) → placeAt (replicate n emptyPlace) i ≡ emptyPlace
-    go (yes h) = getD-replicate n i emptyPlace emptyPlace h
-    go (no h) = List·getD-eq-default (replicate n emptyPlace) emptyPlace {n = i} (omega (arith, length-replicate n emptyPlace))
-
 -- a sound board with its cache emptied is sound
 cleared-sound : (z : Sizes) → 1 ≤ z .places → (b : Tables) → Sound z b → Sound z (cleared z b)
 cleared-sound z one b w = record {
-  shape = record { slots-long = w .shape .slots-long; live-long = w .shape .live-long; places-long = length-replicate (z .places) emptyPlace };
+  shape = record { slots-long = w .shape .slots-long; live-long = w .shape .live-long; places-long = length-replicate (z .places) emptyPlace; summary-long = w .shape .summary-long };
   pages = w .pages;
   cache = record {
     filled-names = λ i h. absurd (not-filled i h);
     one-each = λ i j h g e. absurd (not-filled i h);
-    empty-form = λ i h. cleared-place (z .places) i;
+    empty-form = λ i h. empty-at z i;
     next-in = one;
   };
+  summary = w .summary;
 }
   where
     not-filled : (i : ℕ) → T (filled (placeAt (replicate (z .places) emptyPlace) i)) → ⊥
-    not-filled i h = rw (cleared-place (z .places) i) at h
+    not-filled i h = rw (empty-at z i) at h
 
 module _ (z : Sizes) (small : Readable z) (b : Tables) (w : Sound z b) where
   -- the slot of a held page's row
@@ -253,7 +247,8 @@ module _ (z : Sizes) (small : Readable z) (b : Tables) (w : Sound z b) where
       (λ i h. start-empty z (small .two-spaces) i h) j (omega (arith, placed-length z start rows, start-long z))) in
       let live-are : liveFlags (z .spaces) (liveNumber (b .live)) ≡ b .live =
       ap (λ (k : ℕ). liveFlags k (liveNumber (b .live))) (sym (w .shape .live-long)) ∙ flags-of-number (b .live) in
-      λ i. record { slots = slots-are i; live = live-are i; places = replicate (z .places) emptyPlace; next = 0 }
+      let counts-are : summaryOf z (slotAt (placed z start rows)) ≡ b .summary = ap (λ (slots : List Slot). summaryOf z (slotAt slots)) slots-are ∙ sym (w .summary) in
+      λ i. record { slots = slots-are i; live = live-are i; places = replicate (z .places) emptyPlace; next = 0; summary = counts-are i }
 
   pub content-fits : Fits z (contentIn z b)
   content-fits =

@@ -5,11 +5,11 @@ use Rattle.lend.specs.Tables.{Tables}
 use Rattle.premium.specs.declared.Board.{Board}
 
 abbrev pub tables : Board → Tables
-tables b = record { slots = b .slots; live = b .live; places = b .cache .places; next = b .cache .next }
+tables b = record { slots = b .slots; live = b .live; places = b .cache .places; next = b .cache .next; summary = b .summary }
 
 -- and back: nothing is lost either way
 abbrev pub boardOf : Tables → Board
-boardOf t = record { slots = t .slots; live = t .live; cache = record { places = t .places; next = t .next } }
+boardOf t = record { slots = t .slots; live = t .live; cache = record { places = t .places; next = t .next }; summary = t .summary }
 
 pub tables-boardOf : (t : Tables) → tables (boardOf t) ≡ t
 tables-boardOf t = refl

@@ -1,5 +1,5 @@
 // Made by tools/models.py from crates/entry/src/lib.rt: change that file.
-// The board of this model: its types, the walk along all lines, and the test of soundness.
+// The board of this model: its types, the walk along all lines, the frame summary, and the test of soundness.
 pub mod lines;
 pub mod lookup;
 pub mod range;
@@ -7,10 +7,13 @@ pub mod rights;
 pub mod sets;
 pub mod sizes;
 pub mod sound;
+pub mod summary;
 pub mod tlb;
 
+use lend::Count;
 use lend::Place;
 use lend::Slot;
+use sizes::PAGES;
 use sizes::PLACES;
 use sizes::SLOTS;
 use sizes::SPACES;
@@ -28,9 +31,10 @@ pub struct Found {
     pub place: Place,
 }
 
-// The slot of each page, space by space; which spaces are live; the cache.
+// The slot of each page, space by space; which spaces are live; the cache; what ends at each frame.
 pub struct Board {
     pub slots: [Slot; SLOTS],
     pub live: [bool; SPACES],
     pub cache: Cache,
+    pub summary: [Count; PAGES],
 }

@@ -1,28 +1,34 @@
 // Made by tools/models.py from crates/entry/src/sound.rt: change that file.
 // The test of soundness. It takes any board: the slots first, then the lines, which may be walked once every slot fits, then
-// the cache, which is held against the rights and frames that were found.
+// the cache and the summary, which are held against the rights, frames and counts that were found.
 use crate::Board;
 use crate::lines::Ends;
 use crate::lines::inside;
 use crate::lines::key;
 use crate::lines::line_ends;
 use crate::lines::parent;
-use crate::rights::rights_of;
 use crate::sizes::PAGES;
 use crate::sizes::PLACES;
 use crate::sizes::SLOTS;
 use crate::sizes::SPACES;
+use crate::summary::no_count;
+use crate::summary::same_counts;
+use crate::summary::tally;
 use crate::tlb::place_for;
+use lend::Count;
 use lend::Link;
 use lend::Place;
 use lend::Slot;
 ghost use mathlib.Core.Path.{_≡_};
+ghost use mathlib.Core.Bool.{false};
+ghost use lib.ListN.{replicate};
 ghost use Rattle.lend.specs.Sizes.{slotCount};
 ghost use Rattle.lend.specs.Lists.{every};
 ghost use Rattle.lend.specs.Slots.{slotAt};
 ghost use Rattle.lend.specs.Tables.{alive};
-ghost use Rattle.lend.specs.SoundTest.{slotTest, isEmptyPlace, Tells};
-ghost use Rattle.lend_code.specs.Inner.{lentFits, linkFits, placeFits, placesFit};
+ghost use Rattle.lend.specs.Summary.{noCount};
+ghost use Rattle.lend.specs.SoundTest.{slotTest, pagesTest, isEmptyPlace, soundTest, Tells};
+ghost use Rattle.lend_code.specs.Inner.{lentFits, linkFits, placeFits, placesFit, rightsFound, framesFound, countsFound};
 ghost use Rattle.premium.specs.Sizes.{sizes};
 ghost use Rattle.premium.specs.Board.{tables};
 
@@ -119,25 +125,94 @@ fn places_fit(places: [Place; PLACES], rights: [u8; SLOTS], frames: [u8; SLOTS])
     true
 }
 
+// What is found of the pages: whether they are sound, and if so the rights and the frame of each, and the counts of all frames.
+pub struct Pages {
+    pub fit: bool,
+    pub rights: [u8; SLOTS],
+    pub frames: [u8; SLOTS],
+    pub counts: [Count; PAGES],
+}
+
+// Pages that are not sound: nothing is told of them.
+fn unfit() -> Pages
+    ensures fit { λ r. ⌜ r .fit ≡ false ⌝ }
+    ensures rights { λ r. ⌜ r .rights ≡ replicate (slotCount sizes) 0 ⌝ }
+    ensures frames { λ r. ⌜ r .frames ≡ replicate (slotCount sizes) 0 ⌝ }
+    ensures counts { λ r. ⌜ r .counts ≡ replicate (sizes .pages) noCount ⌝ }
+{
+    Pages {
+        fit: false,
+        rights: [0u8; SLOTS],
+        frames: [0u8; SLOTS],
+        counts: [no_count(); PAGES],
+    }
+}
+
+// Whether the pages are sound, whatever numbers stand in them, and what was found on the way.
+pub fn examine(slots: [Slot; SLOTS], live: [bool; SPACES]) -> Pages
+    ensures fit { λ r. ⌜ r .fit ≡ pagesTest sizes live (slotAt slots) ⌝ }
+    ensures rights { λ r. ⌜ r .rights ≡ rightsFound sizes slots live ⌝ }
+    ensures frames { λ r. ⌜ r .frames ≡ framesFound sizes slots live ⌝ }
+    ensures counts { λ r. ⌜ r .counts ≡ countsFound sizes slots live ⌝ }
+{
+    if !(live_at(live, 0) & live_at(live, 1)) {
+        return unfit();
+    }
+    if !slots_fit(slots, live) {
+        return unfit();
+    }
+    let ends = line_ends(slots);
+    let frames = ends.frames;
+    if !ends.rooted {
+        return unfit();
+    }
+    let found = tally(slots, frames);
+    let rights = found.rights;
+    let counts = found.counts;
+    Pages {
+        fit: true,
+        rights,
+        frames,
+        counts,
+    }
+}
+
+// What the test of soundness finds: whether the board is sound, and the frames of its pages where they are.
+pub struct Checked {
+    pub sound: bool,
+    pub frames: [u8; SLOTS],
+}
+
+// Whether the board is sound, whatever numbers stand in it, and the frames that were found on the way.
+pub fn check(b: Board) -> Checked
+    ensures sound { λ r. ⌜ r .sound ≡ soundTest sizes (tables b) ⌝ }
+    ensures frames { λ r. ⌜ r .frames ≡ framesFound sizes (b .slots) (b .live) ⌝ }
+{
+    let slots = b.slots;
+    let live = b.live;
+    let pages = examine(slots, live);
+    let frames = pages.frames;
+    if !pages.fit {
+        return Checked {
+            sound: false,
+            frames,
+        };
+    }
+    let cache = b.cache;
+    let places = cache.places;
+    let summary = b.summary;
+    let rights = pages.rights;
+    let counts = pages.counts;
+    let sound = places_fit(places, rights, frames)
+        & ((cache.next as usize) < PLACES)
+        & same_counts(summary, counts);
+    Checked { sound, frames }
+}
+
 // Whether the board is sound, whatever numbers stand in it.
 pub fn sound(b: Board) -> bool
     ensures { λ r. ⌜ Tells sizes (tables b) r ⌝ }
 {
-    let slots = b.slots;
-    let live = b.live;
-    if !slots_fit(slots, live) {
-        return false;
-    }
-    let ends = line_ends(slots);
-    if !ends.rooted {
-        return false;
-    }
-    let cache = b.cache;
-    let places = cache.places;
-    let frames = ends.frames;
-    let rights = rights_of(slots);
-    live_at(live, 0)
-        & live_at(live, 1)
-        & places_fit(places, rights, frames)
-        & ((cache.next as usize) < PLACES)
+    let checked = check(b);
+    checked.sound
 }

@@ -10,8 +10,10 @@ use model::sound::live_at;
 use model::sound::sound;
 use premium as model;
 ghost use mathlib.Core.Path.{_≡_};
+ghost use mathlib.Core.Bool.{not, cond};
+ghost use Rattle.lend.specs.Numbers.{firstOf};
 ghost use Rattle.lend.specs.Tables.{alone};
-ghost use Rattle.lend.specs.Calls.{Create, Delete, number as numberOf};
+ghost use Rattle.lend.specs.Calls.{Create, Delete, cases, number as numberOf};
 ghost use Rattle.lend_code.specs.Inner.{pageChecks};
 ghost use Rattle.lend_code.specs.Ranges.{oneNumber};
 ghost use Rattle.premium.specs.Sizes.{sizes};
@@ -43,11 +45,11 @@ pub fn create_number(b: Board, space: u32) -> u32
     pick(!is_sound, 1, pick(SPACES <= s, 3, pick(alive, 10, 0)))
 }
 
-pub fn delete_number(b: Board, space: u32) -> u32
-    ensures { λ r. ⌜ r ≡ numberOf sizes (alone (tables b)) (Delete space) ⌝ }
+// is_sound tells whether the board is sound.
+pub fn delete_number(b: Board, is_sound: bool, space: u32) -> u32
+    ensures { λ r. ⌜ r ≡ cond (not «is_sound») 1 (firstOf (cases sizes (alone (tables b)) (Delete space))) ⌝ }
 {
     let live = b.live;
-    let is_sound = sound(b);
     let s = space as usize;
     let alive = live_at(live, s);
     pick(

@@ -3,10 +3,13 @@
 use crate::Answer;
 use crate::checks::delete_number;
 use crate::reply::refused;
+use crate::withdraw::taken_from;
 use crate::withdraw::withdrawn;
 use model::Board;
 use model::lines::line_has;
 use model::sets::pages_of;
+use model::sound::check;
+use model::summary::tally;
 use premium as model;
 ghost use mathlib.Core.Path.{_≡_};
 ghost use Rattle.lend.specs.Tables.{alone};
@@ -18,7 +21,9 @@ ghost use Rattle.premium_calls.specs.Answer.{outcome};
 pub fn delete(mut b: Board, space: u32) -> Answer
     ensures { λ r. ⌜ outcome r ≡ step sizes (alone (tables b)) (Delete space) ⌝ }
 {
-    let number = delete_number(b, space);
+    let checked = check(b);
+    let frames = checked.frames;
+    let number = delete_number(b, checked.sound, space);
     if number != 0 {
         return refused(b, number);
     }
@@ -26,5 +31,10 @@ pub fn delete(mut b: Board, space: u32) -> Answer
     let s = space as usize;
     let reached = line_has(slots, pages_of(s));
     b.live[s] = false;
-    withdrawn(b, reached, 7)
+    let left = taken_from(b, reached, 7);
+    let board = left.board;
+    let after = board.slots;
+    let found = tally(after, frames);
+    let counts = found.counts;
+    withdrawn(left, counts)
 }

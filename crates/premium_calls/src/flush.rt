@@ -3,12 +3,15 @@
 use crate::Answer;
 use crate::checks::page_number;
 use crate::reply::refused;
+use crate::withdraw::taken_from;
 use crate::withdraw::withdrawn;
 use model::Board;
 use model::lines::line_has;
+use model::lookup::lookup;
 use model::sets::only;
 use model::sizes::PAGES;
 use model::sound::sound;
+use model::summary::less_at;
 use premium as model;
 ghost use mathlib.Core.Path.{_≡_};
 ghost use Rattle.lend.specs.Tables.{alone};
@@ -32,7 +35,10 @@ pub(crate) fn flush_page(b: Board, space: u32, page: u32, rights: u32) -> Answer
     let slots = b.slots;
     let y = (space as usize) * PAGES + (page as usize);
     let reached = line_has(slots, only(y));
-    withdrawn(b, reached, rights as u8)
+    let end = lookup(slots, y);
+    let counts = b.summary;
+    let left = taken_from(b, reached, rights as u8);
+    withdrawn(left, less_at(counts, end.frame as usize, left.lost))
 }
 
 pub fn flush(b: Board, space: u32, page: u32, rights: u32) -> Answer

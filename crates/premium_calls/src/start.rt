@@ -8,6 +8,7 @@ use model::sizes::PAGES;
 use model::sizes::PLACES;
 use model::sizes::SLOTS;
 use model::sizes::SPACES;
+use model::summary::no_count;
 use premium as model;
 ghost use mathlib.Core.Path.{_≡_};
 ghost use Rattle.lend.specs.Start.{startBoard};
@@ -46,5 +47,6 @@ pub fn start() -> Board
             places: [lend::empty_place(); PLACES],
             next: 0,
         },
+        summary: [no_count(); PAGES],
     }
 }

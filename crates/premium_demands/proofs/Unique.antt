@@ -13,7 +13,11 @@ use Rattle.lend.specs.Ranges.{RangeOutcome}
 use Rattle.lend_basics.proofs.Unique.{one-result}
 use Rattle.lend_code.specs.Access.{Look}
 use Rattle.image.specs.Answered.{Left, left}
+use Rattle.lend.specs.declared.Count.{Count}
 use Rattle.premium.specs.declared.lines.Lookup.{Lookup}
+use Rattle.premium.specs.declared.summary.Tallied.{Tallied}
+use Rattle.premium.specs.declared.sound.Pages.{Pages}
+use Rattle.premium.specs.declared.sound.Checked.{Checked}
 use Rattle.premium.specs.declared.range.Range.{Range}
 use Rattle.premium.specs.declared.Board.{Board}
 use Rattle.premium.specs.Board.{tables, boardOf, boardOf-tables}
@@ -40,6 +44,19 @@ one-told v w = v .as-test ∙ sym (w .as-test)
 -- `lookup`, whose contract gives the frame and the links: there is no other field
 pub one-lookup : {end far : ℕ} {r s : Lookup} → r .frame ≡ end → r .links ≡ far → s .frame ≡ end → s .links ≡ far → r ≡ s
 one-lookup rf rl sf sl = λ i. record { frame = (rf ∙ sym sf) i; links = (rl ∙ sym sl) i }
+
+-- `tally`, whose contract gives the rights and the counts
+pub one-tally : {own : List ℕ} {all : List Count} {r s : Tallied} → r .rights ≡ own → r .counts ≡ all → s .rights ≡ own → s .counts ≡ all → r ≡ s
+one-tally rr rc sr sc = λ i. record { rights = (rr ∙ sym sr) i; counts = (rc ∙ sym sc) i }
+
+-- `examine`, whose contract gives whether the pages are sound and what was found of them
+pub one-examined : {is : Bool} {own ends : List ℕ} {all : List Count} {r s : Pages} → r .fit ≡ is → r .rights ≡ own → r .frames ≡ ends → r .counts ≡ all
+    → s .fit ≡ is → s .rights ≡ own → s .frames ≡ ends → s .counts ≡ all → r ≡ s
+one-examined rt rr rf rc st sr sf sc = λ i. record { fit = (rt ∙ sym st) i; rights = (rr ∙ sym sr) i; frames = (rf ∙ sym sf) i; counts = (rc ∙ sym sc) i }
+
+-- `check`, whose contract gives whether the board is sound and the frames
+pub one-checked : {is : Bool} {ends : List ℕ} {r s : Checked} → r .sound ≡ is → r .frames ≡ ends → s .sound ≡ is → s .frames ≡ ends → r ≡ s
+one-checked rs rf ss sf = λ i. record { sound = (rs ∙ sym ss) i; frames = (rf ∙ sym sf) i }
 
 -- a call whose contract is `outcome r ≡ ..`
 pub one-answer : {meaning : Outcome} {r s : Answer} → outcome r ≡ meaning → outcome s ≡ meaning → r ≡ s

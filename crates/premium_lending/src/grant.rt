@@ -3,16 +3,19 @@
 use crate::checks::lines_number;
 use crate::checks::named_number;
 use crate::checks::source_of;
-use crate::relink::cut;
+use crate::relink::linked;
 use crate::relink::taken;
+use crate::relink::taken_from;
 use calls::Answer;
 use calls::reply::refused;
 use lend::Slot;
 use model::Board;
 use model::lines::line_has;
+use model::lookup::lookup;
 use model::sets::only;
 use model::sizes::PAGES;
 use model::sound::sound;
+use model::summary::less_at;
 use premium as model;
 use premium_calls as calls;
 ghost use mathlib.Core.Path.{_≡_};
@@ -54,15 +57,21 @@ pub(crate) fn grant_page(b: Board, from: u32, page: u32, to: u32, at: u32, right
     if number != 0 {
         return refused(b, number);
     }
-    let mut new = cut(slots, under_taker, 7);
+    let freed = taken_from(slots, under_taker, 7);
+    let mut new = freed.slots;
     new[taker] = Slot {
         link,
         rights: asked,
     };
     let giver_alone = only(giver);
     let under_giver = line_has(new, giver_alone);
-    let left = cut(new, under_giver, giver_loses(asked));
-    taken(b, left, to as u8, at as u8)
+    let given = taken_from(new, under_giver, giver_loses(asked));
+    let last = given.slots;
+    let summary = b.summary;
+    let more = linked(slots, summary, taker, giver, freed.lost, asked);
+    let end = lookup(slots, giver);
+    let counts = less_at(more, end.frame as usize, given.lost);
+    taken(b, last, counts, to as u8, at as u8)
 }
 
 // Answers the number, the board after the grant, and the count of pages that it emptied.

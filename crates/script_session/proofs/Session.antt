@@ -11,7 +11,8 @@ use Rattle.lend.specs.Lending.{mapped}
 use Rattle.lend.specs.Line.{line, frame, links}
 use Rattle.lend.specs.Lists.{every, some, count, tabulateFrom}
 use Rattle.lend.specs.Rights.{less, within}
-use Rattle.lend.specs.SoundTest.{slotTest, pagesTest, cacheTest, soundTest}
+use Rattle.lend.specs.SoundTest.{slotTest, pagesTest, cacheTest, summaryTest, soundTest}
+use Rattle.lend.specs.Summary.{summaryTo}
 use Rattle.lend.specs.Start.{startBoard}
 use Rattle.lend.specs.Translate.{physical, linksTo, hit, looked}
 use Rattle.lend.specs.Withdraw.{unmapped, flushed}
@@ -58,12 +59,12 @@ output =
     ∷ []
 
 pub session : scriptOutput sizes.entry (text input) ≡ text output
-unfolding placeFor cached emptyIn goesTo nextAfter lostRight cases number boardAfter memoryAfter report step emptied mapped line frame links every some count tabulateFrom less within slotTest pagesTest cacheTest soundTest startBoard physical linksTo hit looked unmapped flushed decimalIn decimal digitOf firstDigit oneMoreDigit numberAt keyAt fieldAt oneField threeFields fiveFields lines createOr deleteOr unmapOr flushOr mapOr grantOr translateOr requestOf isComment entry answerLine translationLine malformedLine liveLine pageLine heldLine judged turn saidLine liveNumber slotLine pagesFrom pagesListed heldOutside listingOf answers outputOf scriptOutput
+unfolding placeFor cached emptyIn goesTo nextAfter lostRight cases number boardAfter memoryAfter report step emptied mapped line frame links every some count tabulateFrom less within slotTest pagesTest cacheTest soundTest summaryTest summaryTo startBoard physical linksTo hit looked unmapped flushed decimalIn decimal digitOf firstDigit oneMoreDigit numberAt keyAt fieldAt oneField threeFields fiveFields lines createOr deleteOr unmapOr flushOr mapOr grantOr translateOr requestOf isComment entry answerLine translationLine malformedLine liveLine pageLine heldLine judged turn saidLine liveNumber slotLine pagesFrom pagesListed heldOutside listingOf answers outputOf scriptOutput
 session = refl
 
 -- and the same on the premium model
 pub premium-session : scriptOutput sizes.premium (text input) ≡ text output
-unfolding placeFor cached emptyIn goesTo nextAfter lostRight cases number boardAfter memoryAfter report step emptied mapped line frame links every some count tabulateFrom less within slotTest pagesTest cacheTest soundTest startBoard physical linksTo hit looked unmapped flushed decimalIn decimal digitOf firstDigit oneMoreDigit numberAt keyAt fieldAt oneField threeFields fiveFields lines createOr deleteOr unmapOr flushOr mapOr grantOr translateOr requestOf isComment entry answerLine translationLine malformedLine liveLine pageLine heldLine judged turn saidLine liveNumber slotLine pagesFrom pagesListed heldOutside listingOf answers outputOf scriptOutput
+unfolding placeFor cached emptyIn goesTo nextAfter lostRight cases number boardAfter memoryAfter report step emptied mapped line frame links every some count tabulateFrom less within slotTest pagesTest cacheTest soundTest summaryTest summaryTo startBoard physical linksTo hit looked unmapped flushed decimalIn decimal digitOf firstDigit oneMoreDigit numberAt keyAt fieldAt oneField threeFields fiveFields lines createOr deleteOr unmapOr flushOr mapOr grantOr translateOr requestOf isComment entry answerLine translationLine malformedLine liveLine pageLine heldLine judged turn saidLine liveNumber slotLine pagesFrom pagesListed heldOutside listingOf answers outputOf scriptOutput
 premium-session = refl
 
 -- ── what else the document says of lines, each on a script of its own ────
@@ -79,7 +80,7 @@ pub record Corners : Type 0 where
   pub other-order : scriptOutput sizes.entry (bytes "op=unmap page=0 space=1 rights=2\n") ≡ bytes "line=1 answer=16\nlive=3\nheld=0\n"
 
 pub corners : Corners
-unfolding placeFor cached emptyIn goesTo nextAfter lostRight cases number boardAfter memoryAfter report step emptied mapped line frame links every some count tabulateFrom less within slotTest pagesTest cacheTest soundTest startBoard physical linksTo hit looked unmapped flushed decimalIn decimal digitOf firstDigit oneMoreDigit numberAt keyAt fieldAt oneField threeFields fiveFields lines createOr deleteOr unmapOr flushOr mapOr grantOr translateOr requestOf isComment entry answerLine translationLine malformedLine liveLine pageLine heldLine judged turn saidLine liveNumber slotLine pagesFrom pagesListed heldOutside listingOf answers outputOf scriptOutput
+unfolding placeFor cached emptyIn goesTo nextAfter lostRight cases number boardAfter memoryAfter report step emptied mapped line frame links every some count tabulateFrom less within slotTest pagesTest cacheTest soundTest summaryTest summaryTo startBoard physical linksTo hit looked unmapped flushed decimalIn decimal digitOf firstDigit oneMoreDigit numberAt keyAt fieldAt oneField threeFields fiveFields lines createOr deleteOr unmapOr flushOr mapOr grantOr translateOr requestOf isComment entry answerLine translationLine malformedLine liveLine pageLine heldLine judged turn saidLine liveNumber slotLine pagesFrom pagesListed heldOutside listingOf answers outputOf scriptOutput
 corners = record {
   empty-input = refl;
   empty-line = refl;

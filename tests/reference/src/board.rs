@@ -2,6 +2,7 @@
 
 use crate::calls::{Call, Lending, Refusal, Reply, Withdrawal, ALL_RIGHTS, READ, WRITE};
 use crate::sizes::{Sizes, PAGE_BYTES};
+use crate::summary::Counts;
 
 /// A page of a space.
 #[derive(Clone, Copy, Debug, PartialEq, Eq)]
@@ -122,6 +123,8 @@ pub struct Board {
     pub slots: Vec<Slot>,
     pub live: Vec<bool>,
     pub cache: Cache,
+    /// By frame.
+    pub summary: Vec<Counts>,
 }
 
 /// The refusal if its condition holds.
@@ -136,13 +139,14 @@ pub fn refuse_if(condition: bool, refusal: Refusal) -> Result<(), Refusal> {
 // ---- reading the board ------------------------------------------------------------------------------------------------------
 
 impl Board {
-    /// Spaces 0 and 1 live, space 0 with its frames, all else empty, next place 0.
+    /// Spaces 0 and 1 live, space 0 with its frames, all else empty, next place 0; so no frame is used outside space 0.
     pub fn start(sizes: Sizes) -> Board {
         let mut board = Board {
             sizes,
             slots: vec![Slot::EMPTY; sizes.spaces * sizes.pages],
             live: (0..sizes.spaces).map(|space| space < 2).collect(),
             cache: Cache { places: vec![Place::default(); sizes.places], next: 0 },
+            summary: vec![[0; 4]; sizes.pages],
         };
         for page in 0..sizes.pages {
             board.set_slot(spot(0, page), Slot { link: Link::Frame(page), rights: ALL_RIGHTS });
@@ -219,7 +223,7 @@ impl Board {
     }
 }
 
-// ---- soundness: one function for each bullet of 01 ---------------------------------------------------------------------------
+// ---- soundness: one function for each bullet of 01, and one for the summary (M-106) ------------------------------------------
 
 impl Board {
     pub fn sound(&self) -> bool {
@@ -228,6 +232,7 @@ impl Board {
             && self.parents_hold()
             && self.lines_reach_the_pool()
             && self.cache_is_true()
+            && self.summary_agrees()
     }
 
     /// Spaces 0 and 1 are live; page i of space 0 holds frame i with rights 7; no other space holds a frame directly.
@@ -328,8 +333,8 @@ impl Board {
         refuse_if(spaces.iter().any(|&space| !self.live[space as usize]), Refusal::NotLive)
     }
 
-    /// Number 5 for pages.
-    fn check_pages(&self, pages: &[u32]) -> Result<(), Refusal> {
+    /// Number 5 for pages, and for frames: a space has as many pages as there are frames.
+    pub fn check_pages(&self, pages: &[u32]) -> Result<(), Refusal> {
         refuse_if(pages.iter().any(|&page| page as usize >= self.sizes.pages), Refusal::Page)
     }
 
@@ -432,10 +437,11 @@ impl Board {
         self.set_slot(deal.taker, Slot { link: Link::Page(deal.source), rights: deal.rights });
     }
 
-    /// Makes a change and counts the pages that were held before it and are empty after it.
+    /// Makes a change, counts the summary anew, and counts the pages that were held before the change and are empty after it.
     pub fn count_emptied(&mut self, change: impl FnOnce(&mut Board)) -> u32 {
         let before: Vec<bool> = self.slots.iter().map(|slot| slot.held()).collect();
         change(self);
+        self.recount();
         let emptied = |(held, slot): &(&bool, &Slot)| **held && !slot.held();
         before.iter().zip(&self.slots).filter(emptied).count() as u32
     }
@@ -544,6 +550,7 @@ impl Board {
             Call::Translate { space, address, rights } => self.translate(space, address, rights).map(Reply::from),
             Call::Load { space, address } => self.load(memory, space, address).map(|byte| Reply::done(byte as u32, 0)),
             Call::Store { space, address, value } => self.store(memory, space, address, value).map(|()| Reply::done(0, 0)),
+            Call::Frame { frame } => self.frame_summary(frame).map(|counts| Reply::counts(counts.map(u32::from))),
             Call::UnmapRange(asked) => Ok(self.unmap_range(asked.space, asked.range, asked.rights).into()),
             Call::FlushRange(asked) => Ok(self.flush_range(asked.space, asked.range, asked.rights).into()),
             Call::MapRange(asked) => Ok(self.map_range(asked.from, asked.given, asked.to, asked.taken, asked.rights).into()),
@@ -575,6 +582,7 @@ pub mod tests {
     fn link(board: &mut Board, page: (usize, usize), parent: (usize, usize), rights: u8) {
         let link = Link::Page(spot(parent.0, parent.1));
         board.set_slot(spot(page.0, page.1), Slot { link, rights });
+        board.recount();
     }
 
     /// Board K of 01.
@@ -622,6 +630,7 @@ pub mod tests {
             let after = if rights == 0 { Slot::EMPTY } else { Slot { rights, ..slot } };
             board.set_slot(spot(space, page), after);
         }
+        board.recount();
         board
     }
 

@@ -2,6 +2,7 @@
 
 pub const READ: u8 = 4;
 pub const WRITE: u8 = 2;
+pub const EXECUTE: u8 = 1;
 pub const ALL_RIGHTS: u8 = 7;
 
 /// Why a call is refused: 01, "Numbers that come back".
@@ -90,15 +91,34 @@ pub struct RangeLending {
 pub enum Call {
     Start,
     Sound,
-    Create { space: u32 },
-    Delete { space: u32 },
+    Create {
+        space: u32,
+    },
+    Delete {
+        space: u32,
+    },
     Unmap(Withdrawal),
     Flush(Withdrawal),
     Map(Lending),
     Grant(Lending),
-    Translate { space: u32, address: u32, rights: u32 },
-    Load { space: u32, address: u32 },
-    Store { space: u32, address: u32, value: u8 },
+    Translate {
+        space: u32,
+        address: u32,
+        rights: u32,
+    },
+    Load {
+        space: u32,
+        address: u32,
+    },
+    Store {
+        space: u32,
+        address: u32,
+        value: u8,
+    },
+    /// Who uses a frame (M-106).
+    Frame {
+        frame: u32,
+    },
     UnmapRange(RangeWithdrawal),
     FlushRange(RangeWithdrawal),
     MapRange(RangeLending),
@@ -120,6 +140,7 @@ pub enum Kind {
     Translate,
     Load,
     Store,
+    Frame,
     UnmapRange,
     FlushRange,
     MapRange,
@@ -143,6 +164,7 @@ impl Call {
             Call::Translate { .. } => Kind::Translate,
             Call::Load { .. } => Kind::Load,
             Call::Store { .. } => Kind::Store,
+            Call::Frame { .. } => Kind::Frame,
             Call::UnmapRange(_) => Kind::UnmapRange,
             Call::FlushRange(_) => Kind::FlushRange,
             Call::MapRange(_) => Kind::MapRange,
@@ -157,7 +179,7 @@ impl Call {
 impl Call {
     pub fn spaces(&self) -> Vec<u32> {
         match *self {
-            Call::Start | Call::Sound | Call::WriteListing | Call::ReadListing => vec![],
+            Call::Start | Call::Sound | Call::Frame { .. } | Call::WriteListing | Call::ReadListing => vec![],
             Call::Create { space } | Call::Delete { space } => vec![space],
             Call::Unmap(asked) | Call::Flush(asked) => vec![asked.space],
             Call::Map(asked) | Call::Grant(asked) => vec![asked.from, asked.to],
@@ -182,6 +204,13 @@ impl Call {
         }
     }
 
+    pub fn frame(&self) -> Option<u32> {
+        match *self {
+            Call::Frame { frame } => Some(frame),
+            _ => None,
+        }
+    }
+
     pub fn ranges(&self) -> Vec<Range> {
         match *self {
             Call::UnmapRange(asked) | Call::FlushRange(asked) => vec![asked.range],
@@ -193,14 +222,14 @@ impl Call {
 
 impl Kind {
     /// How many kinds there are.
-    pub const COUNT: usize = 17;
+    pub const COUNT: usize = 18;
 
     /// The calls that a script has.
     pub const SCRIPT: [Kind; 7] =
         [Kind::Create, Kind::Delete, Kind::Unmap, Kind::Flush, Kind::Map, Kind::Grant, Kind::Translate];
 
-    /// The calls of the library that answer a number of the table (`sound` answers yes or no): start, those for one page or one
-    /// space, and those for ranges.
+    /// The calls of the library that answer a number of the table (`sound` answers yes or no): start, those for one page, one
+    /// space or one frame, and those for ranges.
     pub const LIBRARY: &'static [Kind] = &[
         Kind::Start,
         Kind::Create,
@@ -212,6 +241,7 @@ impl Kind {
         Kind::Translate,
         Kind::Load,
         Kind::Store,
+        Kind::Frame,
         Kind::UnmapRange,
         Kind::FlushRange,
         Kind::MapRange,
@@ -221,8 +251,8 @@ impl Kind {
     /// The calls that act on a board, so all but start and sound.
     pub const BOARD: &'static [Kind] = Kind::LIBRARY.split_at(1).1;
 
-    /// The calls for one page or one space.
-    pub const ONE_PAGE: &'static [Kind] = Kind::BOARD.split_at(9).0;
+    /// The calls for one page, one space or one frame.
+    pub const ONE_PAGE: &'static [Kind] = Kind::BOARD.split_at(10).0;
 
     /// The calls that write and read listings.
     pub const LISTING: &'static [Kind] = &[Kind::WriteListing, Kind::ReadListing];
@@ -239,6 +269,7 @@ impl Kind {
             Kind::Translate => "translate",
             Kind::Load => "load",
             Kind::Store => "store",
+            Kind::Frame => "frame",
             Kind::UnmapRange => "unmaps",
             Kind::FlushRange => "flushes",
             Kind::MapRange => "maps",
@@ -260,6 +291,7 @@ impl Kind {
             Kind::Map | Kind::Grant => &[0, 1, 3, 4, 5, 6, 9, 11, 12, 13, 14, 15],
             Kind::Translate => &[0, 1, 3, 4, 5, 6, 11, 12],
             Kind::Load | Kind::Store => &[0, 1, 2, 3, 4, 5, 11, 12],
+            Kind::Frame => &[0, 1, 5],
             Kind::UnmapRange => &[0, 1, 3, 4, 6, 7],
             Kind::FlushRange => &[0, 1, 3, 4, 6, 7, 9],
             Kind::MapRange | Kind::GrantRange => &[0, 1, 3, 4, 6, 7, 8, 9, 11, 12, 13, 14, 15],
@@ -297,6 +329,11 @@ impl Reply {
     /// Of a call over a range: the number, the pages done, the offset of the first refused one, and the pages emptied.
     pub fn range(number: u32, done: u32, offset: u32, emptied: u32) -> Reply {
         Reply { number, out: [done, offset, emptied, 0], strayed: false }
+    }
+
+    /// Of a frame: the pages held, and those of them with read, write and execute.
+    pub fn counts(out: [u32; 4]) -> Reply {
+        Reply { number: 0, out, strayed: false }
     }
 
     /// Refused, or an answer that is a number only.

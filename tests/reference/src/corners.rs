@@ -27,6 +27,15 @@ pub enum Corner {
     NoPageRefused,
     /// The first refused page is in the upper half of a space's pages.
     LateRefusal,
+    UpperFrame,
+    LastFrame,
+    PastLastFrame,
+    /// Nobody outside space 0 uses the frame that is asked for.
+    UnusedFrame,
+    /// A frame's four counts are four numbers.
+    FourCounts,
+    /// Half of all pages outside space 0 or more end at one frame: on the premium model the counts need their high byte.
+    CrowdedFrame,
     /// A grant of fewer rights than the giver holds.
     GrantOfPart,
     /// Such a grant, with a page below the giver, other than the taker, that has a right which was not granted.
@@ -80,6 +89,16 @@ impl Corner {
         Corner::PastLastBase,
         Corner::NoPageRefused,
         Corner::LateRefusal,
+    ];
+
+    /// The corners of the calls that ask for a frame.
+    pub const OF_FRAMES: [Corner; 6] = [
+        Corner::UpperFrame,
+        Corner::LastFrame,
+        Corner::PastLastFrame,
+        Corner::UnusedFrame,
+        Corner::FourCounts,
+        Corner::CrowdedFrame,
     ];
 
     /// The corners of grants of a part of the rights.
@@ -174,7 +193,7 @@ impl Corner {
 
     /// The corners that a call and its answer have reached.
     pub fn reached(sizes: Sizes, call: &Call, reply: &Reply) -> Vec<Corner> {
-        let all = Corner::OF_ONE_PAGE.iter().chain(&Corner::OF_RANGES).copied();
+        let all = Corner::OF_ONE_PAGE.iter().chain(&Corner::OF_RANGES).chain(&Corner::OF_FRAMES).copied();
         all.filter(|corner| corner.is_reached(sizes, call, reply)).collect()
     }
 
@@ -183,6 +202,7 @@ impl Corner {
             Corner::UpperSpace | Corner::LastSpace | Corner::PastLastSpace => self.of_space(sizes, call, reply),
             Corner::UpperPage | Corner::LastPage | Corner::PastLastPage => self.of_page(sizes, call, reply),
             Corner::UpperAddress | Corner::LastAddress | Corner::PastLastAddress => self.of_address(sizes, call, reply),
+            _ if Corner::OF_FRAMES.contains(&self) => call.frame().is_some_and(|frame| self.of_frame(sizes, frame, reply)),
             _ => self.of_range(sizes, call, reply),
         }
     }
@@ -201,12 +221,25 @@ impl Corner {
         call.address().is_some_and(|address| self.at_limit(address, sizes.memory(), reply, Refusal::Page))
     }
 
+    fn of_frame(self, sizes: Sizes, frame: u32, reply: &Reply) -> bool {
+        let (done, counts) = (reply.number == 0, reply.out);
+        let most = ((sizes.spaces - 1) * sizes.pages) as u32;
+        match self {
+            Corner::UnusedFrame => done && counts[0] == 0,
+            Corner::FourCounts => done && (0..4).all(|field| !counts[..field].contains(&counts[field])),
+            Corner::CrowdedFrame => done && 2 * counts[0] >= most,
+            _ => self.at_limit(frame, sizes.pages, reply, Refusal::Page),
+        }
+    }
+
     /// A number in the upper half or the last one, and the call was accepted; or the first past the limit, and it was refused.
     fn at_limit(self, number: u32, limit: usize, reply: &Reply, refusal: Refusal) -> bool {
         let (number, done) = (number as usize, reply.number == 0);
         match self {
-            Corner::UpperSpace | Corner::UpperPage | Corner::UpperAddress => done && (limit / 2..limit).contains(&number),
-            Corner::LastSpace | Corner::LastPage | Corner::LastAddress => done && number == limit - 1,
+            Corner::UpperSpace | Corner::UpperPage | Corner::UpperAddress | Corner::UpperFrame => {
+                done && (limit / 2..limit).contains(&number)
+            }
+            Corner::LastSpace | Corner::LastPage | Corner::LastAddress | Corner::LastFrame => done && number == limit - 1,
             _ => reply.number == refusal.number() && number == limit,
         }
     }
@@ -306,6 +339,21 @@ mod tests {
         assert_eq!(reached(Sizes::PREMIUM, load(32_768), Reply::done(0, 0)), [Corner::UpperPage, Corner::UpperAddress]);
         assert_eq!(reached(Sizes::PREMIUM, load(65_536), Reply::bare(5)), [Corner::PastLastAddress]);
         assert_eq!(reached(Sizes::ENTRY, load(32_768), Reply::bare(5)), [Corner::PastLastAddress]);
+    }
+
+    #[test]
+    fn the_ends_of_frames() {
+        let of_frame = |sizes, frame, out| reached(sizes, Call::Frame { frame }, Reply::counts(out));
+        assert_eq!(of_frame(Sizes::PREMIUM, 63, [3, 1, 2, 1]), [Corner::UpperFrame, Corner::LastFrame]);
+        assert_eq!(of_frame(Sizes::PREMIUM, 32, [1, 1, 1, 1]), [Corner::UpperFrame]);
+        assert_eq!(of_frame(Sizes::PREMIUM, 31, [0; 4]), [Corner::UnusedFrame]);
+        assert_eq!(of_frame(Sizes::ENTRY, 0, [3, 0, 1, 2]), [Corner::FourCounts]);
+        assert_eq!(of_frame(Sizes::ENTRY, 0, [3, 3, 1, 2]), []);
+        assert_eq!(of_frame(Sizes::ENTRY, 0, [112, 9, 9, 9]), [Corner::CrowdedFrame]);
+        assert_eq!(of_frame(Sizes::PREMIUM, 0, [479, 9, 9, 9]), []);
+        assert_eq!(of_frame(Sizes::PREMIUM, 0, [480, 9, 9, 9]), [Corner::CrowdedFrame]);
+        assert_eq!(reached(Sizes::ENTRY, Call::Frame { frame: 32 }, Reply::bare(5)), [Corner::PastLastFrame]);
+        assert_eq!(reached(Sizes::ENTRY, Call::Frame { frame: 33 }, Reply::bare(5)), []);
     }
 
     #[test]

@@ -32,10 +32,30 @@ pub enum Damage {
     CachedTwice,
     HalfEmptyPlace,
     NextPlace,
+    /// One count is one too high or too low.
+    CountOff,
+    /// A right's count is off, and the number of pages held is right.
+    RightOff,
+    /// Two frames have each other's counts, one of the four or all: every total is right.
+    CountsSwapped,
+    /// One frame has a page too many and another one too few: every total is right.
+    CountsMoved,
+    /// A frame that only space 0 uses is counted as used.
+    UnusedFrameCounted,
+    /// Space 0 is counted with the rest.
+    PoolCounted,
+    HighByte,
+    /// The two bytes of each count are exchanged.
+    BytesExchanged,
+    /// The counts of two rights are exchanged.
+    RightsExchanged,
+    NothingCounted,
+    /// The summary is that of the board before a page was taken, or before a right was.
+    SummaryOfBefore,
 }
 
 impl Damage {
-    pub const ALL: [Damage; 22] = [
+    pub const ALL: [Damage; 33] = [
         Damage::Field,
         Damage::ManyFields,
         Damage::AnyBytes,
@@ -58,7 +78,37 @@ impl Damage {
         Damage::CachedTwice,
         Damage::HalfEmptyPlace,
         Damage::NextPlace,
+        Damage::CountOff,
+        Damage::RightOff,
+        Damage::CountsSwapped,
+        Damage::CountsMoved,
+        Damage::UnusedFrameCounted,
+        Damage::PoolCounted,
+        Damage::HighByte,
+        Damage::BytesExchanged,
+        Damage::RightsExchanged,
+        Damage::NothingCounted,
+        Damage::SummaryOfBefore,
     ];
+
+    /// Those that leave nothing wrong but the summary.
+    pub const OF_SUMMARY: [Damage; 11] = [
+        Damage::CountOff,
+        Damage::RightOff,
+        Damage::CountsSwapped,
+        Damage::CountsMoved,
+        Damage::UnusedFrameCounted,
+        Damage::PoolCounted,
+        Damage::HighByte,
+        Damage::BytesExchanged,
+        Damage::RightsExchanged,
+        Damage::NothingCounted,
+        Damage::SummaryOfBefore,
+    ];
+
+    fn is_of_summary(self) -> bool {
+        Damage::OF_SUMMARY.contains(&self)
+    }
 }
 
 /// Goes through every byte of the image with each of a list of values, over and over.
@@ -100,11 +150,23 @@ impl Sweep {
     }
 }
 
-/// The image of a sound board, damaged.
+/// The image of a sound board, damaged. Where that was done to the tables alone, the summary is mostly counted anew: what is wrong
+/// with them has to be seen without it.
 pub fn damaged(random: &mut Random, board: &Board, damage: Damage, sweep: &mut Sweep) -> Vec<u8> {
+    let bytes = changed(random, board, damage, sweep);
+    match image::decode(board.sizes, &bytes) {
+        Some(mut after) if after.summary == board.summary && !damage.is_of_summary() && random.chance(80) => {
+            after.recount();
+            image::encode(&after)
+        }
+        _ => bytes,
+    }
+}
+
+fn changed(random: &mut Random, board: &Board, damage: Damage, sweep: &mut Sweep) -> Vec<u8> {
     match damage {
         Damage::Field => damaged_bytes(board, |bytes| sweep.change(bytes)),
-        Damage::ManyFields => damaged_bytes(board, |bytes| many_fields(random, bytes)),
+        Damage::ManyFields => damaged_bytes(board, |bytes| many_fields(random, board.sizes, bytes)),
         Damage::AnyBytes => (0..board.sizes.image()).map(|_| random.byte()).collect(),
         Damage::SwappedRecords => damaged_bytes(board, |bytes| swap_records(random, board, bytes)),
         Damage::UnusedByte => damaged_bytes(board, |bytes| unused_byte(random, board, bytes)),
@@ -125,6 +187,7 @@ pub fn damaged(random: &mut Random, board: &Board, damage: Damage, sweep: &mut S
         Damage::CachedTwice => damaged_board(board, |board| cached_twice(random, board)),
         Damage::HalfEmptyPlace => damaged_board(board, |board| half_empty_place(random, board)),
         Damage::NextPlace => damaged_board(board, |board| next_place(random, board)),
+        _ => damaged_board(board, |board| wrong_summary(random, board, damage)),
     }
 }
 
@@ -142,9 +205,11 @@ fn damaged_board(board: &Board, change: impl FnOnce(&mut Board)) -> Vec<u8> {
 
 // ---- bytes -------------------------------------------------------------------------------------------------------------------
 
-fn many_fields(random: &mut Random, bytes: &mut [u8]) {
+/// Bytes of the tables, or of the whole image.
+fn many_fields(random: &mut Random, sizes: Sizes, bytes: &mut [u8]) {
+    let length = random.pick(&[sizes.tables(), sizes.image()]);
     for _ in 0..random.between(2, 20) {
-        let at = random.below(bytes.len());
+        let at = random.below(length);
         bytes[at] = if random.chance(50) { random.byte() } else { random.byte() % 8 };
     }
 }
@@ -367,10 +432,95 @@ fn next_place(random: &mut Random, board: &mut Board) {
     board.cache.next = random.pick(&[places, places + 1, 2 * places, 127, 128, 255]);
 }
 
+// ---- the summary -------------------------------------------------------------------------------------------------------------
+
+/// A sound board with a held page outside space 0 gets a wrong summary; a board with none gets such a page first.
+fn wrong_summary(random: &mut Random, board: &mut Board, damage: Damage) {
+    let page = lent_page(random, board);
+    board.recount();
+    let used = board.frame(page).expect("the board is sound");
+    match damage {
+        Damage::RightOff => one_off(random, board, &[1, 2, 3]),
+        Damage::CountsSwapped => swap_counts(random, board, used),
+        Damage::CountsMoved => move_count(random, board, used),
+        Damage::UnusedFrameCounted => count_unused(random, board),
+        Damage::PoolCounted => board.summary.iter_mut().flatten().for_each(|count| *count += 1),
+        Damage::HighByte => board.summary[random.below(board.sizes.pages)][random.below(4)] ^= 256 << random.below(8),
+        Damage::BytesExchanged => board.summary.iter_mut().flatten().for_each(|count| *count = count.swap_bytes()),
+        Damage::RightsExchanged => exchange_rights(random, board),
+        Damage::NothingCounted => board.summary.fill([0; 4]),
+        Damage::SummaryOfBefore => take_uncounted(random, board, page),
+        _ => one_off(random, board, &[0, 1, 2, 3]),
+    }
+}
+
+/// One of these counts of a frame is one too high or too low.
+fn one_off(random: &mut Random, board: &mut Board, fields: &[usize]) {
+    let used: Vec<usize> = (0..board.sizes.pages).filter(|&frame| board.summary[frame][0] > 0).collect();
+    let frame = if random.chance(50) { random.pick(&used) } else { random.below(board.sizes.pages) };
+    let count = &mut board.summary[frame][random.pick(fields)];
+    *count = if random.chance(50) { count.wrapping_add(1) } else { count.wrapping_sub(1) };
+}
+
+/// The used frame and another one have each other's counts: one of the four, if it tells them apart, or all; where nothing does,
+/// one page is moved.
+fn swap_counts(random: &mut Random, board: &mut Board, used: usize) {
+    let unlike: Vec<usize> = (0..board.sizes.pages).filter(|&frame| board.summary[frame] != board.summary[used]).collect();
+    let Some(other) = random.pick_any(&unlike) else {
+        return move_count(random, board, used);
+    };
+    let telling = |field: &usize| board.summary[other][*field] != board.summary[used][*field];
+    let fields: Vec<usize> = (0..4).filter(telling).collect();
+    let one = random.pick(&fields);
+    for field in if random.chance(50) { vec![one] } else { fields } {
+        let count = board.summary[used][field];
+        board.summary[used][field] = board.summary[other][field];
+        board.summary[other][field] = count;
+    }
+}
+
+/// One of the four counts, or each that can be, is one lower at the used frame and one higher at another.
+fn move_count(random: &mut Random, board: &mut Board, used: usize) {
+    let other = (used + random.between(1, board.sizes.pages - 1)) % board.sizes.pages;
+    let fields: Vec<usize> = (0..4).filter(|&field| board.summary[used][field] > 0).collect();
+    let one = random.pick(&fields);
+    for field in if random.chance(50) { vec![one] } else { fields } {
+        board.summary[used][field] -= 1;
+        board.summary[other][field] += 1;
+    }
+}
+
+/// A frame that only space 0 uses has its page counted, or a right of it; where there is none, any frame has one page more.
+fn count_unused(random: &mut Random, board: &mut Board) {
+    let unused: Vec<usize> = (0..board.sizes.pages).filter(|&frame| board.summary[frame][0] == 0).collect();
+    let frame = random.pick_any(&unused).unwrap_or(random.below(board.sizes.pages));
+    let more = random.pick(&[[1, 1, 1, 1], [1, 0, 0, 0], [0, 1, 0, 0], [0, 0, 1, 0], [0, 0, 0, 1]]);
+    (0..4).for_each(|field| board.summary[frame][field] += more[field]);
+}
+
+/// Two rights that were not given equally often have each other's counts at every frame; where all were, one of them is off.
+fn exchange_rights(random: &mut Random, board: &mut Board) {
+    let pairs = [(1, 2), (1, 3), (2, 3)];
+    let tells = |pair: &(usize, usize)| board.summary.iter().any(|counts| counts[pair.0] != counts[pair.1]);
+    let telling: Vec<(usize, usize)> = pairs.into_iter().filter(tells).collect();
+    match random.pick_any(&telling) {
+        Some((first, second)) => board.summary.iter_mut().for_each(|counts| counts.swap(first, second)),
+        None => one_off(random, board, &[1, 2, 3]),
+    }
+}
+
+/// The page and all below it lose a right or all rights, and so do their cache entries; the counts stay.
+fn take_uncounted(random: &mut Random, board: &mut Board, page: Spot) {
+    let rights = board.slot(page).rights;
+    let one = random.pick(&[1, 2, 4]) & rights;
+    board.flush_step(page, if one == 0 { rights } else { one });
+}
+
 #[cfg(test)]
 mod tests {
     use super::*;
     use crate::sessions::random_board;
+    use crate::summary::Counts;
 
     fn sound(sizes: Sizes, bytes: &[u8]) -> bool {
         image::decode(sizes, bytes).is_some_and(|board| board.sound())
@@ -395,6 +545,79 @@ mod tests {
                 let unsound = unsound(sizes, damage, boards);
                 assert!(5 * unsound > 2 * boards, "{damage:?}: {unsound} of {boards}");
             }
+        }
+    }
+
+    /// On random boards, on full ones where every frame has the same counts, and on the start board.
+    #[test]
+    fn every_damage_of_the_summary_leaves_nothing_else_wrong() {
+        for (sizes, boards) in [(Sizes::ENTRY, 300), (Sizes::PREMIUM, 50)] {
+            let mut random = Random::new(23);
+            for damage in Damage::OF_SUMMARY.iter().cycle().take(boards * Damage::OF_SUMMARY.len()) {
+                let board = match random.below(3) {
+                    0 => Board::start(sizes),
+                    1 => alike_board(sizes),
+                    _ => random_board(&mut random, sizes),
+                };
+                let bytes = damaged(&mut random, &board, *damage, &mut Sweep::new(sizes));
+                assert!(image::decode(sizes, &bytes).unwrap().only_the_summary_is_wrong(), "{damage:?}");
+            }
+        }
+    }
+
+    /// Every page outside space 0 is lent by the page of the pool with its number, with all rights.
+    fn alike_board(sizes: Sizes) -> Board {
+        let mut board = Board::start(sizes);
+        board.live.fill(true);
+        for page in board.clone().spots().filter(|page| page.space != 0) {
+            board.set_slot(page, Slot { link: Link::Page(spot(0, page.page)), rights: ALL_RIGHTS });
+        }
+        board.recount();
+        board
+    }
+
+    /// Those that are wrong in one total, and those that are not.
+    #[test]
+    fn swapped_and_moved_counts_have_the_right_totals() {
+        let mut random = Random::new(24);
+        for damage in [Damage::CountsSwapped, Damage::CountsMoved, Damage::CountOff, Damage::RightOff] {
+            for _ in 0..100 {
+                let board = random_board(&mut random, Sizes::ENTRY);
+                let bytes = damaged(&mut random, &board, damage, &mut Sweep::new(Sizes::ENTRY));
+                let wrong = image::decode(Sizes::ENTRY, &bytes).unwrap();
+                let totals = [&wrong.summary, &wrong.counted()].map(|counts| totals(counts));
+                let alike = [0, 1, 2, 3].map(|field| totals[0][field] == totals[1][field]);
+                match damage {
+                    Damage::CountOff => assert_ne!(alike, [true; 4]),
+                    Damage::RightOff => assert!(alike[0] && alike != [true; 4]),
+                    _ => assert_eq!(alike, [true; 4]),
+                }
+            }
+        }
+    }
+
+    /// The four totals of a summary, as the bytes would add up.
+    fn totals(summary: &[Counts]) -> [u16; 4] {
+        [0, 1, 2, 3].map(|field| summary.iter().fold(0, |sum: u16, counts| sum.wrapping_add(counts[field])))
+    }
+
+    /// What is wrong with the tables has to be seen without the summary in most cases, and not in all.
+    #[test]
+    fn damaged_tables_have_their_own_summary_in_most_cases() {
+        for damage in [Damage::Field, Damage::RightsBeyondParent, Damage::EmptyParent, Damage::Ring, Damage::SwappedRecords] {
+            let mut random = Random::new(25);
+            let mut sweep = Sweep::new(Sizes::ENTRY);
+            let (mut agree, mut disagree) = (0, 0);
+            for _ in 0..1000 {
+                let board = random_board(&mut random, Sizes::ENTRY);
+                let bytes = damaged(&mut random, &board, damage, &mut sweep);
+                match image::decode(Sizes::ENTRY, &bytes) {
+                    Some(board) if board.summary_agrees() && !board.sound() => agree += 1,
+                    Some(board) if !board.sound() => disagree += 1,
+                    _ => (),
+                }
+            }
+            assert!(agree > 150 && disagree > 10, "{damage:?}: {agree} and {disagree}");
         }
     }
 

@@ -5,7 +5,7 @@
 
 use crate::board::{spot, Board, Cache, Spot};
 use crate::calls::{Call, Kind, Reply};
-use crate::drive_library::{only, patterned_memory, show_world, Subject, World};
+use crate::drive_library::{patterned_memory, show_world, Subject, World};
 use crate::image;
 use crate::random::Random;
 use crate::sessions::{random_board, read, Composer};
@@ -16,7 +16,7 @@ use crate::tally::{Limit, Tally};
 const ENTRY: Sizes = Sizes::ENTRY;
 const PREMIUM: Sizes = Sizes::PREMIUM;
 
-/// The premium board that an entry board is: the same pages, live spaces and cache, all else as at the start.
+/// The premium board that an entry board is: the same pages, live spaces, cache and counts, all else as at the start.
 pub fn embed(entry: &Board) -> Board {
     let mut board = Board::start(PREMIUM);
     for page in entry.spots() {
@@ -25,14 +25,15 @@ pub fn embed(entry: &Board) -> Board {
     board.live[..ENTRY.spaces].copy_from_slice(&entry.live);
     board.cache.places[..ENTRY.places].copy_from_slice(&entry.cache.places);
     board.cache.next = entry.cache.next;
+    board.summary[..ENTRY.pages].copy_from_slice(&entry.summary);
     board
 }
 
-/// True where each space, page and address is one that both models have, or one that neither has.
+/// True where each space, page, frame and address is one that both models have, or one that neither has.
 fn is_for_both(call: &Call) -> bool {
     let alike = |number: u32, limit: fn(Sizes) -> usize| (number as usize) < limit(ENTRY) || number as usize >= limit(PREMIUM);
     call.spaces().into_iter().all(|space| alike(space, |sizes| sizes.spaces))
-        && call.pages().into_iter().all(|page| alike(page, |sizes| sizes.pages))
+        && call.pages().into_iter().chain(call.frame()).all(|page| alike(page, |sizes| sizes.pages))
         && call.address().into_iter().all(|address| alike(address, Sizes::memory))
 }
 
@@ -242,7 +243,7 @@ impl<'a> Both<'a> {
         let Trial { start, calls } = trial;
         let records = image::records(ENTRY);
         let with = |kept: &[std::ops::Range<usize>]| {
-            let board = image::decode(ENTRY, &only(&start.entry.image, kept)).filter(Board::sound);
+            let board = image::decode(ENTRY, &image::reduced(ENTRY, &start.entry.image, kept)).filter(Board::sound);
             board.map(|board| Pair::of(&board, start.entry.memory.clone(), start.rest()))
         };
         let kept = shrink(&records, |kept| with(kept).is_some_and(|start| self.differs(&start, &calls)));
@@ -335,7 +336,7 @@ fn replies_differ(before: &Pair, call: &Call, replies: &[Reply; 2]) -> Vec<Strin
     found
 }
 
-/// The premium board must be the entry board's in pages and live spaces; in the cache too while no entry was replaced.
+/// The premium board must be the entry board's in pages, live spaces and counts; in the cache too while no entry was replaced.
 fn boards_differ(entry: &Board, premium: &Board, replaced: bool) -> Vec<String> {
     let mut found = Vec::new();
     let expected = embed(entry);
@@ -345,6 +346,10 @@ fn boards_differ(entry: &Board, premium: &Board, replaced: bool) -> Vec<String> 
     }
     if premium.live != expected.live {
         found.push(format!("live: entry {:?}, premium {:?}", entry.live, premium.live));
+    }
+    for frame in (0..PREMIUM.pages).filter(|&frame| premium.summary[frame] != expected.summary[frame]) {
+        let [entry, premium] = [&expected, premium].map(|board| board.summary[frame]);
+        found.push(format!("frame {frame}: entry counts {entry:?}, premium {premium:?}"));
     }
     if !replaced && premium.cache != expected.cache {
         found.push(format!("entry {:?}\n    premium {:?}", entry.cache, premium.cache));
@@ -387,7 +392,7 @@ mod tests {
     #[test]
     fn a_fault_in_one_model_is_told_apart() {
         let mut missed = Vec::new();
-        for fault in SEEN_HERE {
+        for fault in SEEN_HERE.into_iter().chain(Fault::OF_SUMMARY) {
             if drive(&mut Model(ENTRY), &mut Wrong(PREMIUM, fault)).is_none() {
                 missed.push(("premium", fault));
             }
@@ -458,6 +463,6 @@ mod tests {
         assert_eq!(report.matches("Grant(").count(), 1, "{report}");
         assert!(report.contains("call 1 differs"), "{report}");
         assert!(report.contains("premium Slot"), "{report}");
-        assert!(report.lines().count() < 40, "{report}");
+        assert!(report.lines().count() < 50, "{report}");
     }
 }

@@ -6,7 +6,7 @@ use crate::calls::{Call, Kind, Reply};
 use crate::damage::{damaged, Damage, Sweep};
 use crate::image;
 use crate::random::Random;
-use crate::sessions::{loose, random_board, Composer};
+use crate::sessions::{along_a_line, crowded_board, loose, random_board, Composer};
 use crate::shrink::shrink;
 use crate::sizes::{Sizes, PAGE_BYTES};
 use crate::tally::{Limit, Tally};
@@ -109,13 +109,22 @@ impl<'a> Driver<'a> {
         World { image: image::encode(&board), memory: patterned_memory(self.sizes) }
     }
 
-    /// A few calls on bytes that are then thrown away: a damaged image, memory of the wrong length, or neither and calls with
-    /// more than one fault.
+    /// A few calls on bytes that are then thrown away: a damaged image, memory of the wrong length, a board with long lines or with
+    /// most pages on one frame, or none of these and calls with more than one fault.
     fn side_trip(&mut self, random: &mut Random, board: &Board, memory: &[u8]) -> Result<(), Trial> {
         let start = World { image: image::encode(board), memory: memory.to_vec() };
         let (start, calls) = match random.below(20) {
             0..=2 => (self.with_wrong_memory(random, board, start), trip_calls(random, board, &[Kind::Load, Kind::Store])),
-            3..=7 => (start, trip_calls(random, board, &[Kind::Map, Kind::Grant, Kind::Flush, Kind::Translate])),
+            3..=5 => (start, trip_calls(random, board, &[Kind::Map, Kind::Grant, Kind::Flush, Kind::Translate])),
+            6 => {
+                let (lines, calls) = along_a_line(random, self.sizes);
+                (World { image: image::encode(&lines), ..start }, calls)
+            }
+            7 => {
+                let crowded = crowded_board(random, self.sizes);
+                let kinds = [Kind::Frame, Kind::Frame, Kind::Unmap, Kind::Flush, Kind::Delete, Kind::Grant];
+                (World { image: image::encode(&crowded), ..start }, trip_calls(random, &crowded, &kinds))
+            }
             _ => (self.with_damaged_image(random, board, start), trip_calls(random, board, Kind::BOARD)),
         };
         let mut world = start.clone();
@@ -128,8 +137,9 @@ impl<'a> Driver<'a> {
 
     fn with_damaged_image(&mut self, random: &mut Random, board: &Board, world: World) -> World {
         let damage = match random.below(100) {
-            0..=54 => Damage::Field,
-            55..=59 => Damage::Length,
+            0..=49 => Damage::Field,
+            50..=54 => Damage::Length,
+            55..=64 => random.pick(&Damage::OF_SUMMARY),
             _ => random.pick(&Damage::ALL),
         };
         self.tally.count_named(format!("{damage:?}"));
@@ -178,7 +188,12 @@ impl<'a> Driver<'a> {
 
     fn count(&mut self, before: &World, call: &Call, reply: &Reply, after: &World) {
         let decode = |world: &World| image::decode(self.sizes, &world.image);
-        match (decode(before), decode(after)) {
+        let boards = (decode(before), decode(after));
+        let unsound = if call.kind() == Kind::Sound { 0 } else { 1 };
+        if let (Some(board), true) = (&boards.0, reply.number == unsound) {
+            self.tally.count_wrong_summary(call, board);
+        }
+        match boards {
             (Some(before), Some(after)) if reply.number == 0 && call.kind() != Kind::Sound => {
                 self.tally.record(call, reply, &before, &after);
             }
@@ -221,19 +236,19 @@ impl<'a> Driver<'a> {
         let Trial { mut world, calls } = trial;
         let records: Vec<_> = image::records(self.sizes).into_iter().filter(|record| record.end <= world.image.len()).collect();
         let kept = shrink(&records, |kept| {
-            let image = only(&world.image, kept);
+            let image = image::reduced(self.sizes, &world.image, kept);
             self.differs(&World { image, memory: world.memory.clone() }, &calls)
         });
-        let image = only(&world.image, &kept);
+        let image = image::reduced(self.sizes, &world.image, &kept);
         if self.differs(&World { image: image.clone(), memory: world.memory.clone() }, &calls) {
             world.image = image;
         }
         let bytes: Vec<_> = (0..world.memory.len()).map(|at| at..at + 1).collect();
         let kept = shrink(&bytes, |kept| {
-            let memory = only(&world.memory, kept);
+            let memory = image::only(&world.memory, kept);
             self.differs(&World { image: world.image.clone(), memory }, &calls)
         });
-        world.memory = only(&world.memory, &kept);
+        world.memory = image::only(&world.memory, &kept);
         Trial { world, calls }
     }
 
@@ -276,15 +291,6 @@ fn trip_calls(random: &mut Random, board: &Board, kinds: &[Kind]) -> Vec<Call> {
             }
         })
         .collect()
-}
-
-/// The bytes in these ranges; all others 0.
-pub fn only(bytes: &[u8], kept: &[std::ops::Range<usize>]) -> Vec<u8> {
-    let mut only = vec![0; bytes.len()];
-    for range in kept {
-        only[range.clone()].copy_from_slice(&bytes[range.clone()]);
-    }
-    only
 }
 
 /// An image, and its records that are not as in the start board.
@@ -376,7 +382,7 @@ mod tests {
     fn every_wrong_model_is_told_apart() {
         let mut missed = Vec::new();
         for (sizes, seeds) in [(Sizes::ENTRY, 1..=3), (Sizes::PREMIUM, 1..=1)] {
-            for fault in Fault::ALL {
+            for fault in Fault::all() {
                 let count = if Fault::OF_01.contains(&fault) { 5_000 } else { 20_000 };
                 let unseen = |seed: &u64| drive_wrong(sizes, &mut Wrong(sizes, fault), *seed, count).is_none();
                 missed.extend(seeds.clone().filter(unseen).map(|seed| (sizes.name(), fault, seed)));

@@ -5,7 +5,7 @@ use crate::board::Board;
 use crate::calls::{Call, Reply};
 use crate::corners::Corner;
 use crate::damage::{damaged, Damage, Sweep};
-use crate::drive_library::{only, show_image, show_mismatch, Mismatch, Subject, World};
+use crate::drive_library::{show_image, show_mismatch, Mismatch, Subject, World};
 use crate::drive_script::shown;
 use crate::image;
 use crate::listing;
@@ -127,6 +127,9 @@ impl<'a> Listings<'a> {
                 self.passed += 1;
                 self.tally.count(&call, &reply);
                 self.tally.count_corners(Corner::of_listing(self.sizes, &world, &call, &reply));
+                if let Some(board) = image::decode(self.sizes, &world.image) {
+                    self.tally.count_wrong_summary(&call, &board);
+                }
                 Ok((reply, after))
             }
             Err(_) => Err(Box::new(Trial { world, call })),
@@ -159,8 +162,8 @@ impl<'a> Listings<'a> {
             text = shrink(&lines, |fewer| self.differs(&world.image, &fewer.concat(), &call)).concat();
         }
         let records: Vec<_> = image::records(self.sizes).into_iter().filter(|record| record.end <= world.image.len()).collect();
-        let kept = shrink(&records, |kept| self.differs(&only(&world.image, kept), &text, &call));
-        let image = only(&world.image, &kept);
+        let kept = shrink(&records, |kept| self.differs(&image::reduced(self.sizes, &world.image, kept), &text, &call));
+        let image = image::reduced(self.sizes, &world.image, &kept);
         if self.differs(&image, &text, &call) {
             world.image = image;
         }
@@ -255,6 +258,11 @@ mod tests {
         }
     }
 
+    /// The model with images of that length.
+    fn size_of(image: &[u8]) -> Sizes {
+        Sizes::MODELS.into_iter().find(|sizes| sizes.image() == image.len()).expect("the call was not refused for its length")
+    }
+
     /// The number of the call is another one, where it is this one.
     fn renumbered(reply: Reply, from: Refusal, to: u32) -> Reply {
         if reply.number == from.number() {
@@ -318,8 +326,30 @@ mod tests {
             renumbered(reply, Refusal::Unsound, if first { 17 } else { 1 })
         });
         caught("the next place stays", |after, call, reply, before| {
-            if let (Call::ReadListing, 0, Some(last)) = (call, reply.number, after.image.last_mut()) {
-                *last = *before.image.last().unwrap();
+            if let (Call::ReadListing, 0) = (call, reply.number) {
+                let next = size_of(&before.image).tables() - 1;
+                after.image[next] = before.image[next];
+            }
+            reply
+        });
+        caught("the summary is not built", |after, call, reply, _| {
+            if let (Call::ReadListing, 0) = (call, reply.number) {
+                let tables = size_of(&after.image).tables();
+                after.image[tables..].fill(0);
+            }
+            reply
+        });
+        caught("the old summary stays", |after, call, reply, before| {
+            if let (Call::ReadListing, 0) = (call, reply.number) {
+                let tables = size_of(&before.image).tables();
+                after.image[tables..].copy_from_slice(&before.image[tables..]);
+            }
+            reply
+        });
+        caught("a refusal leaves the old summary", |after, call, reply, before| {
+            if let (Call::ReadListing, 17 | 18) = (call, reply.number) {
+                let tables = size_of(&before.image).tables();
+                after.image[tables..].copy_from_slice(&before.image[tables..]);
             }
             reply
         });

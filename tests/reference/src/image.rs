@@ -3,6 +3,7 @@
 use crate::board::{spot, Board, Cache, Link, Place, Slot};
 use crate::calls::{Call, Refusal, Reply};
 use crate::sizes::Sizes;
+use crate::summary::Counts;
 use std::ops::Range;
 
 /// The image of a board.
@@ -16,6 +17,7 @@ pub fn encode(board: &Board) -> Vec<u8> {
         bytes.extend([place.space as u8, place.page as u8, place.frame as u8, place.rights]);
     }
     bytes.push(board.cache.next as u8);
+    bytes.extend(board.summary.iter().flatten().flat_map(|count| count.to_le_bytes()));
     bytes
 }
 
@@ -32,7 +34,8 @@ pub fn decode(sizes: Sizes, bytes: &[u8]) -> Option<Board> {
     if bytes.len() != sizes.image() {
         return None;
     }
-    let (slots, rest) = bytes.split_at(4 * sizes.spaces * sizes.pages);
+    let (tables, summary) = bytes.split_at(sizes.tables());
+    let (slots, rest) = tables.split_at(4 * sizes.spaces * sizes.pages);
     let (live, rest) = rest.split_at(sizes.spaces);
     let (places, next) = rest.split_at(4 * sizes.places);
     Some(Board {
@@ -40,6 +43,7 @@ pub fn decode(sizes: Sizes, bytes: &[u8]) -> Option<Board> {
         slots: slots.chunks(4).map(decode_slot).collect::<Option<_>>()?,
         live: live.iter().map(|&byte| decode_live(byte)).collect::<Option<_>>()?,
         cache: Cache { places: places.chunks(4).map(decode_place).collect(), next: next[0] as usize },
+        summary: summary.chunks(8).map(decode_counts).collect(),
     })
 }
 
@@ -60,6 +64,11 @@ fn decode_live(byte: u8) -> Option<bool> {
 
 fn decode_place(bytes: &[u8]) -> Place {
     Place { space: bytes[0] as usize, page: bytes[1] as usize, frame: bytes[2] as usize, rights: bytes[3] }
+}
+
+/// Four counts of two bytes each, the low byte first.
+fn decode_counts(bytes: &[u8]) -> Counts {
+    [0, 2, 4, 6].map(|at| bytes[at] as u16 + 256 * bytes[at + 1] as u16)
 }
 
 /// A call over an image, as the C interface makes it.
@@ -98,17 +107,19 @@ pub fn play_with(
     }
 }
 
-/// The parts of an image that stand together: each slot, live space, cache place, and the next place.
+/// The parts of an image that stand together: each slot, live space, cache place, the next place, and each frame's counts.
 pub fn records(sizes: Sizes) -> Vec<Range<usize>> {
     let slots = sizes.spaces * sizes.pages;
     let live = 4 * slots;
     let cache = live + sizes.spaces;
     let next = cache + 4 * sizes.places;
+    let summary = next + 1;
     (0..slots)
         .map(|i| 4 * i..4 * i + 4)
         .chain((live..cache).map(|at| at..at + 1))
         .chain((0..sizes.places).map(|i| cache + 4 * i..cache + 4 * i + 4))
-        .chain(std::iter::once(next..next + 1))
+        .chain(std::iter::once(next..summary))
+        .chain((0..sizes.pages).map(|frame| summary + 8 * frame..summary + 8 * frame + 8))
         .collect()
 }
 
@@ -116,15 +127,47 @@ pub fn records(sizes: Sizes) -> Vec<Range<usize>> {
 pub fn record_name(sizes: Sizes, index: usize) -> String {
     let slots = sizes.spaces * sizes.pages;
     let places = slots + sizes.spaces;
+    let next = places + sizes.places;
     if index < slots {
         format!("slot ({},{})", index / sizes.pages, index % sizes.pages)
     } else if index < places {
         format!("live {}", index - slots)
-    } else if index < places + sizes.places {
+    } else if index < next {
         format!("cache place {}", index - places)
-    } else {
+    } else if index == next {
         "next place".to_string()
+    } else {
+        format!("counts of frame {}", index - next - 1)
     }
+}
+
+/// The image with these bytes alone, all others 0, but for the summary: that is as far off as it was, so that where it was right it
+/// is right for the pages that are left.
+pub fn reduced(sizes: Sizes, image: &[u8], kept: &[Range<usize>]) -> Vec<u8> {
+    let fewer = only(image, kept);
+    match (decode(sizes, image), decode(sizes, &fewer)) {
+        (Some(whole), Some(mut board)) => {
+            board.summary = shifted(&board.counted(), &whole.counted(), &whole.summary);
+            encode(&board)
+        }
+        _ => fewer,
+    }
+}
+
+/// The counts, off by as much as `found` is off from `right`.
+fn shifted(counts: &[Counts], right: &[Counts], found: &[Counts]) -> Vec<Counts> {
+    let shift = |frame: usize, field: usize| found[frame][field].wrapping_sub(right[frame][field]);
+    let moved = |frame: usize| [0, 1, 2, 3].map(|field| counts[frame][field].wrapping_add(shift(frame, field)));
+    (0..counts.len()).map(moved).collect()
+}
+
+/// The bytes in these ranges; all others 0.
+pub fn only(bytes: &[u8], kept: &[Range<usize>]) -> Vec<u8> {
+    let mut only = vec![0; bytes.len()];
+    for range in kept {
+        only[range.clone()].copy_from_slice(&bytes[range.clone()]);
+    }
+    only
 }
 
 #[cfg(test)]
@@ -142,12 +185,15 @@ mod tests {
         board.translate(2, 3 * 1024, 4).unwrap();
         board.cache.next = 5;
         let image = encode(&board);
-        assert_eq!(image.len(), 1065);
+        assert_eq!(image.len(), 1321);
         assert_eq!(image[4 * 31..4 * 34], [1, 31, 0, 7, 2, 0, 5, 7, 0, 0, 0, 0]);
         assert_eq!(image[4 * (32 * 2 + 3)..][..4], [2, 1, 0, 6]);
         assert_eq!(image[1024..1032], [1, 1, 1, 1, 1, 0, 0, 0]);
         assert_eq!(image[1032..1040], [2, 3, 5, 6, 0, 0, 0, 0]);
         assert_eq!(image[1064], 5);
+        assert_eq!(image[1065..1105], [0; 40], "frames 0 to 4");
+        assert_eq!(image[1105..1121], [3, 0, 2, 0, 3, 0, 1, 0, 1, 0, 1, 0, 1, 0, 1, 0], "frames 5 and 6");
+        assert_eq!(image[1121..], [0; 200]);
         assert_eq!(decode(ENTRY, &image), Some(board));
     }
 
@@ -157,12 +203,25 @@ mod tests {
         board.translate(2, 3 * 1024, 4).unwrap();
         board.cache.next = 13;
         let image = encode(&board);
-        assert_eq!(image.len(), 4177);
+        assert_eq!(image.len(), 4689);
         assert_eq!(image[4 * 63..4 * 66], [1, 63, 0, 7, 2, 0, 5, 7, 0, 0, 0, 0]);
         assert_eq!(image[4 * (64 * 2 + 3)..][..4], [2, 1, 0, 6]);
         assert_eq!(image[4096..4112], [1, 1, 1, 1, 1, 0, 0, 0, 0, 0, 0, 0, 0, 0, 0, 0]);
         assert_eq!(image[4112..4120], [2, 3, 5, 6, 0, 0, 0, 0]);
         assert_eq!(image[4176], 13);
+        assert_eq!(image[4177..4217], [0; 40], "frames 0 to 4");
+        assert_eq!(image[4217..4233], [3, 0, 2, 0, 3, 0, 1, 0, 1, 0, 1, 0, 1, 0, 1, 0], "frames 5 and 6");
+        assert_eq!(image[4233..], [0; 456]);
+        assert_eq!(decode(PREMIUM, &image), Some(board));
+    }
+
+    /// 960 is 3 * 256 + 192, 512 is 2 * 256 and 448 is 256 + 192.
+    #[test]
+    fn counts_have_their_low_byte_first() {
+        let mut board = board_k(PREMIUM);
+        board.summary[63] = [960, 512, 448, 7];
+        let image = encode(&board);
+        assert_eq!(image[4681..], [192, 3, 0, 2, 192, 1, 7, 0]);
         assert_eq!(decode(PREMIUM, &image), Some(board));
     }
 
@@ -210,7 +269,7 @@ mod tests {
 
     #[test]
     fn calls_over_what_is_no_image() {
-        for (sizes, length) in [(ENTRY, 1065), (PREMIUM, 4177)] {
+        for (sizes, length) in [(ENTRY, 1321), (PREMIUM, 4689)] {
             let mut image = vec![9; length];
             let kept = image.clone();
             assert_eq!(play(sizes, &mut image, &mut [], &Call::Create { space: 2 }), Reply::bare(1));
@@ -269,8 +328,25 @@ mod tests {
                 end = record.end;
             }
             assert_eq!(end, sizes.image());
-            assert_eq!(record_name(sizes, records.len() - 1), "next place");
+            assert_eq!(record_name(sizes, records.len() - 1), format!("counts of frame {}", sizes.pages - 1));
+            assert_eq!(record_name(sizes, records.len() - sizes.pages), "counts of frame 0");
+            assert_eq!(record_name(sizes, records.len() - sizes.pages - 1), "next place");
             assert_eq!(record_name(sizes, sizes.pages), "slot (1,0)");
         }
+    }
+
+    /// (2,3) and (3,1) are left out: with the summary of K, and with frame 0 one too high and a read of frame 5 missing.
+    #[test]
+    fn a_reduced_image_has_a_summary_as_far_off() {
+        let kept: Vec<_> = (0..4 * (2 * 32)).chain(4 * 68..4 * 69).chain(1024..1032).map(|at| at..at + 1).collect();
+        let reduced_k = |change: fn(&mut Board)| {
+            let mut board = board_k(ENTRY);
+            change(&mut board);
+            decode(ENTRY, &reduced(ENTRY, &encode(&board), &kept)).unwrap()
+        };
+        let right = reduced_k(|_| ());
+        assert!(right.sound() && right.lent_pages().count() == 2);
+        let wrong = reduced_k(|board| (board.summary[0][0], board.summary[5][1]) = (1, 1));
+        assert_eq!((wrong.summary[0], wrong.summary[5], wrong.summary[6]), ([1, 0, 0, 0], [1, 0, 1, 1], [1, 1, 1, 1]));
     }
 }

@@ -33,10 +33,14 @@ pub enum Left {
     Memory,
     /// A translation says that it followed 8 links at most.
     Links,
+    /// A frame of 32 or more is refused.
+    Frames,
+    /// A frame's counts are told as bytes, which are wide enough for the entry model's.
+    Counts,
 }
 
 impl Left {
-    pub const ALL: [Left; 12] = [
+    pub const ALL: [Left; 14] = [
         Left::Spaces,
         Left::Pages,
         Left::Addresses,
@@ -49,6 +53,8 @@ impl Left {
         Left::Offset,
         Left::Memory,
         Left::Links,
+        Left::Frames,
+        Left::Counts,
     ];
 }
 
@@ -91,6 +97,13 @@ fn play(left: Left, board: &mut Board, memory: &mut [u8], call: &Call) -> Reply 
             let mut reply = board.play(memory, call);
             let most = if call.kind() == Kind::Translate { 8 } else { u32::MAX };
             reply.out[2] = reply.out[2].min(most);
+            reply
+        }
+        Left::Frames => refused_if(call.frame() >= Some(32), 5, board, memory, call),
+        Left::Counts => {
+            let mut reply = board.play(memory, call);
+            let most = if call.kind() == Kind::Frame { 255 } else { u32::MAX };
+            reply.out.iter_mut().for_each(|count| *count &= most);
             reply
         }
         Left::Lines => board.play(memory, call),

@@ -1,7 +1,7 @@
 //! An independent model of the page-lending board, written from the documents alone, and the random sessions that hold the
 //! proved implementation against it.
 //!
-//! * the model: `sizes`, `calls`, `board`, `range`, `listing`, `script`, `image`
+//! * the model: `sizes`, `calls`, `board`, `summary`, `range`, `listing`, `script`, `image`
 //! * what is tried: `random`, `sessions` (calls and scripts), `lines` (malformed lines), `listings` (good and refused ones),
 //!   `damage` (damaged images)
 //! * the comparison: `shrink`, `tally` and `corners`, `drive_script` and `drive_from` (scripts that start from a listing),
@@ -32,6 +32,7 @@ pub mod served;
 pub mod sessions;
 pub mod shrink;
 pub mod sizes;
+pub mod summary;
 pub mod tally;
 #[cfg(test)]
 mod wrong;

@@ -88,6 +88,7 @@ impl Listing {
         for &(page, slot) in &self.pages {
             board.set_slot(page, slot);
         }
+        board.recount();
         board
     }
 }

@@ -8,7 +8,7 @@ use crate::lines::{spoil, Flaw};
 use crate::listing;
 use crate::random::Random;
 use crate::script::INPUT_LIMIT;
-use crate::sessions::random_board;
+use crate::sessions::{crowded_board, random_board};
 use crate::sizes::Sizes;
 
 /// What is done to the listing of a sound board. Some by chance leave a good one.
@@ -209,14 +209,16 @@ pub fn full_board(random: &mut Random, sizes: Sizes) -> Board {
         let parent = spot(0, random.below(sizes.pages));
         board.set_slot(page, Slot { link: Link::Page(parent), rights: random.between(1, ALL_RIGHTS as usize) as u8 });
     }
+    board.recount();
     board
 }
 
-/// A sound board, at times the start board or a full one.
+/// A sound board, at times the start board, a full one, or one with most pages on one frame.
 pub fn some_board(random: &mut Random, sizes: Sizes) -> Board {
     match random.below(20) {
         0 | 1 => Board::start(sizes),
         2 => full_board(random, sizes),
+        3 => crowded_board(random, sizes),
         _ => random_board(random, sizes),
     }
 }

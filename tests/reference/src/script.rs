@@ -150,7 +150,7 @@ pub fn write_line(call: &Call) -> Option<String> {
         Call::Translate { space, address, rights } => {
             Some(format!("op=translate space={space} address={address} rights={rights}"))
         }
-        Call::Start | Call::Sound | Call::Load { .. } | Call::Store { .. } => None,
+        Call::Start | Call::Sound | Call::Load { .. } | Call::Store { .. } | Call::Frame { .. } => None,
         Call::UnmapRange(_) | Call::FlushRange(_) | Call::MapRange(_) | Call::GrantRange(_) => None,
         Call::WriteListing | Call::ReadListing => None,
     }

@@ -87,6 +87,7 @@ fn spelled(call: &Call) -> (u8, [u32; 7], u8) {
         Call::Translate { space, address, rights } => (b't', three(space, address, rights), 0),
         Call::Load { space, address } => (b'l', three(space, address, 0), 0),
         Call::Store { space, address, value } => (b'w', three(space, address, 0), value),
+        Call::Frame { frame } => (b'h', three(frame, 0, 0), 0),
         Call::UnmapRange(asked) => (b'U', withdrawn(&asked), 0),
         Call::FlushRange(asked) => (b'F', withdrawn(&asked), 0),
         Call::MapRange(asked) => (b'M', lent(&asked), 0),

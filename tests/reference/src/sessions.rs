@@ -22,6 +22,38 @@ pub fn random_board(random: &mut Random, sizes: Sizes) -> Board {
     }
     fill_pages(random, &mut board);
     fill_cache(random, &mut board);
+    board.recount();
+    board
+}
+
+/// A sound board with a few lines through every space, and translations of one of their pages: a miss and a hit.
+pub fn along_a_line(random: &mut Random, sizes: Sizes) -> (Board, Vec<Call>) {
+    let mut board = Board::start(sizes);
+    board.live.fill(true);
+    lay_lines(random, &mut board);
+    board.recount();
+    let page = deepest(&board, random.between(1, sizes.spaces));
+    let (space, address) = (page.space as u32, (PAGE_BYTES * page.page + random.below(PAGE_BYTES)) as u32);
+    let rights = board.slot(page).rights as u32;
+    (board, vec![Call::Translate { space, address, rights }; 2])
+}
+
+/// A sound board with most pages of all spaces on one frame, each lent by the pool or by a page that has the frame already.
+pub fn crowded_board(random: &mut Random, sizes: Sizes) -> Board {
+    let mut board = Board::start(sizes);
+    board.live.fill(true);
+    let pool = spot(0, random.below(sizes.pages));
+    let share = random.pick(&[70, 100]);
+    let mut crowd = vec![pool];
+    for page in empty_pages(random, &board, share) {
+        let giver = random.pick(&crowd);
+        let parent = if board.line(giver).all(|at| at.space != page.space) { giver } else { pool };
+        let rights = some_of(random, board.slot(parent).rights);
+        board.set_slot(page, Slot { link: Link::Page(parent), rights });
+        crowd.push(page);
+    }
+    fill_cache(random, &mut board);
+    board.recount();
     board
 }
 
@@ -43,15 +75,20 @@ fn lay_lines(random: &mut Random, board: &mut Board) {
     }
 }
 
-/// Links a random share of the pages, each to a held page whose line does not meet its space.
-fn fill_pages(random: &mut Random, board: &mut Board) {
-    let share = random.pick(&[10, 50, 90, 100]);
-    let chain = random.chance(50);
+/// So many of a hundred pages of the live spaces other than 0, less those that are held, in any order.
+fn empty_pages(random: &mut Random, board: &Board, share: usize) -> Vec<Spot> {
     let mut pages: Vec<Spot> = board.spots().filter(|page| page.space != 0 && board.live[page.space]).collect();
     random.shuffle(&mut pages);
     pages.truncate(pages.len() * share / 100);
     pages.retain(|&page| !board.held(page));
-    for page in pages {
+    pages
+}
+
+/// Links a random share of the pages, each to a held page whose line does not meet its space.
+fn fill_pages(random: &mut Random, board: &mut Board) {
+    let share = random.pick(&[10, 50, 90, 100]);
+    let chain = random.chance(50);
+    for page in empty_pages(random, board, share) {
         let givers: Vec<Spot> = (0..if chain { 12 } else { 1 }).map(|_| some_held(random, board)).collect();
         let free = givers.into_iter().filter(|&giver| board.line(giver).all(|at| at.space != page.space));
         if let Some(parent) = free.max_by_key(|&giver| board.line(giver).count()) {
@@ -224,7 +261,7 @@ fn again(random: &mut Random, board: &Board) -> Call {
     Call::Map(lending(giver, taker, rights))
 }
 
-/// Reads through the cache: pages that are in it, and others, so that it fills up and wraps around.
+/// Reads through the cache: pages that are in it, and others, so that it fills up and wraps around. Or asks who uses a frame.
 pub fn read(random: &mut Random, board: &Board, kinds: &[Kind]) -> Call {
     let page = match (some_cached(random, board), random.below(100)) {
         (_, 0..=4) => spot(0, board.sizes.pages - 1),
@@ -237,11 +274,20 @@ pub fn read(random: &mut Random, board: &Board, kinds: &[Kind]) -> Call {
     let offset = random.pick(&[0, PAGE_BYTES - 1, any, any, any, any]);
     let (space, address) = (page.space as u32, (PAGE_BYTES * page.page + offset) as u32);
     let rights = some_of(random, board.slot(page).rights) as u32;
+    if kinds.contains(&Kind::Frame) && random.chance(10) {
+        return Call::Frame { frame: some_frame(random, board, page) };
+    }
     match random.pick(&[Kind::Translate, Kind::Load, Kind::Store]) {
         Kind::Load if kinds.contains(&Kind::Load) => Call::Load { space, address },
         Kind::Store if kinds.contains(&Kind::Store) => Call::Store { space, address, value: random.byte() },
         _ => Call::Translate { space, address, rights },
     }
+}
+
+/// The frame of a page, or any.
+fn some_frame(random: &mut Random, board: &Board, page: Spot) -> u32 {
+    let any = random.below(board.sizes.pages);
+    board.frame(page).filter(|_| random.chance(75)).unwrap_or(any) as u32
 }
 
 /// Takes rights away, often along the line of a page in the cache, and often just those that the cached page has not.
@@ -332,6 +378,15 @@ impl Loose<'_> {
             0 => self.random.below(self.board.sizes.pages) as u32,
             _ => odd_number(self.random, self.board.sizes.pages),
         }
+    }
+
+    /// The frame of a page, the first past the last one, or any odd number.
+    fn frame(&mut self, page: Spot) -> u32 {
+        let good = some_frame(self.random, self.board, page);
+        if self.odd() && self.random.chance(30) {
+            return self.board.sizes.pages as u32;
+        }
+        self.page(good as usize)
     }
 
     fn address(&mut self, good_page: usize) -> u32 {
@@ -451,7 +506,7 @@ impl Loose<'_> {
     /// Two ranges, of the same size more often than not; in many cases just the pages of a lending.
     fn range_lending(&mut self, way: Way) -> RangeLending {
         let Lending { from, page, to, at, rights } = self.lending(way);
-        if way == Way::Map && self.random.chance(20) {
+        if way == Way::Map && self.random.chance(30) {
             return self.whole_pool();
         }
         if self.wanted.is_some() || self.random.chance(40) {
@@ -483,6 +538,7 @@ impl Loose<'_> {
             Kind::Store => {
                 Call::Store { space: self.space(some.space), address: self.address(some.page), value: self.random.byte() }
             }
+            Kind::Frame => Call::Frame { frame: self.frame(some) },
             Kind::UnmapRange => Call::UnmapRange(self.range_withdrawal()),
             Kind::FlushRange => Call::FlushRange(self.range_withdrawal()),
             Kind::MapRange => Call::MapRange(self.range_lending(Way::Map)),
@@ -855,6 +911,19 @@ mod tests {
             assert!(depths[8] > 10, "{depths:?}");
             assert!(fullest > full, "{fullest}");
             assert!(unreachable > 100, "{unreachable}");
+        }
+    }
+
+    #[test]
+    fn crowded_boards_are_sound_and_have_most_pages_on_one_frame() {
+        for (sizes, most) in [(Sizes::ENTRY, 224), (Sizes::PREMIUM, 960)] {
+            let mut random = Random::new(6);
+            for _ in 0..50 {
+                let board = crowded_board(&mut random, sizes);
+                assert!(board.sound());
+                let used: Vec<u16> = board.summary.iter().map(|counts| counts[0]).filter(|&held| held > 0).collect();
+                assert!(used.len() == 1 && 2 * used[0] > most, "{used:?}");
+            }
         }
     }
 

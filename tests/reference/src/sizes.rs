@@ -53,9 +53,14 @@ impl Sizes {
         PAGE_BYTES * self.pages
     }
 
-    /// Bytes of a board's image: slots, live spaces, cache places, next place.
-    pub fn image(self) -> usize {
+    /// Bytes of a board's tables: slots, live spaces, cache places, next place.
+    pub fn tables(self) -> usize {
         4 * self.spaces * self.pages + self.spaces + 4 * self.places + 1
+    }
+
+    /// Bytes of a board's image: the tables, then the summary with four counts of two bytes for each frame.
+    pub fn image(self) -> usize {
+        self.tables() + 8 * self.pages
     }
 }
 
@@ -66,7 +71,8 @@ mod tests {
     #[test]
     fn the_models_have_the_sizes_of_the_header() {
         assert_eq!(Sizes::MODELS.map(Sizes::memory), [32_768, 65_536]);
-        assert_eq!(Sizes::MODELS.map(Sizes::image), [1_065, 4_177]);
+        assert_eq!(Sizes::MODELS.map(Sizes::tables), [1_065, 4_177]);
+        assert_eq!(Sizes::MODELS.map(Sizes::image), [1_321, 4_689]);
     }
 
     #[test]

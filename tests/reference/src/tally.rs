@@ -33,6 +33,8 @@ pub struct Tally {
     lines: [Vec<u64>; 2],
     /// Replaced entries, by place.
     replaced: Vec<u64>,
+    /// Calls on boards of which the summary alone was wrong, by kind.
+    wrong_summaries: [u64; Kind::COUNT],
     named: BTreeMap<String, u64>,
 }
 
@@ -47,6 +49,7 @@ impl Tally {
             corners: BTreeMap::new(),
             lines: [0, 1].map(|_| vec![0; sizes.spaces]),
             replaced: vec![0; sizes.places],
+            wrong_summaries: Default::default(),
             named: BTreeMap::new(),
         }
     }
@@ -67,6 +70,11 @@ impl Tally {
 
     pub fn count_malformed(&mut self) {
         self.malformed += 1;
+    }
+
+    /// Counts a call that was made on this board, if the summary alone was wrong.
+    pub fn count_wrong_summary(&mut self, call: &Call, board: &Board) {
+        self.wrong_summaries[call.kind() as usize] += board.only_the_summary_is_wrong() as u64;
     }
 
     /// Counts a thing by its name (a flaw of a line, a damage of an image).
@@ -115,6 +123,9 @@ impl Tally {
         missing.extend(self.missing_corners(&Corner::OF_GRANTS));
         missing.extend(self.missing_corners(&Corner::OF_RANGES));
         missing.extend(self.missing_corners(&[Corner::RangeGrantOfPart]));
+        missing.extend(self.missing_corners(&Corner::OF_FRAMES));
+        missing.extend(self.missing_wrong_summaries(Kind::BOARD));
+        missing.extend(self.missing_wrong_summaries(&[Kind::Sound]));
         missing.extend(self.missing_translations());
         missing
     }
@@ -131,6 +142,7 @@ impl Tally {
     pub fn missing_of_listings(&self) -> Vec<String> {
         let mut missing = self.missing(Kind::LISTING, |_| true);
         missing.extend(self.missing_corners(&Corner::OF_LISTINGS));
+        missing.extend(self.missing_wrong_summaries(Kind::LISTING));
         missing
     }
 
@@ -160,6 +172,11 @@ impl Tally {
 
     fn missing_corners(&self, corners: &[Corner]) -> Vec<String> {
         corners.iter().filter(|corner| !self.corners.contains_key(corner)).map(|corner| format!("{corner:?}")).collect()
+    }
+
+    fn missing_wrong_summaries(&self, kinds: &[Kind]) -> Vec<String> {
+        let never = kinds.iter().filter(|&&kind| self.wrong_summaries[kind as usize] == 0);
+        never.map(|kind| format!("{} with a wrong summary", kind.name())).collect()
     }
 
     /// Each length of a translated line, as a miss and as a hit, and each place with a replaced entry.
@@ -216,8 +233,9 @@ impl Tally {
     /// The corners and the named things, each with its count.
     pub fn counts(&self) -> String {
         let corners = self.corners.iter().map(|(corner, count)| format!("{corner:?} {count}"));
+        let wrong = format!("calls with a wrong summary: {}\n", self.wrong_summaries.iter().sum::<u64>());
         let named = self.named.iter().map(|(name, count)| format!("{name} {count}"));
-        corners.collect::<Vec<_>>().join(", ") + "\n" + &named.collect::<Vec<_>>().join(", ") + "\n"
+        wrong + &corners.collect::<Vec<_>>().join(", ") + "\n" + &named.collect::<Vec<_>>().join(", ") + "\n"
     }
 }
 

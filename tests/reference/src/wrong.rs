@@ -1,10 +1,11 @@
 //! Deliberately wrong models: 01's "Easy ways to get it wrong" and some more. The random runs have to tell each of them apart.
 
 use crate::board::{spot, Board, Deal, Link, Place, Slot, Spot, Way};
-use crate::calls::{Call, Lending, Refusal, Reply, Withdrawal, ALL_RIGHTS};
+use crate::calls::{Call, Kind, Lending, Refusal, Reply, Withdrawal, ALL_RIGHTS};
 use crate::drive_library::Subject;
 use crate::image;
 use crate::sizes::Sizes;
+use crate::summary::Counts;
 
 #[derive(Clone, Copy, Debug, PartialEq, Eq)]
 pub enum Fault {
@@ -68,6 +69,33 @@ pub enum Fault {
     RefusalSaysLinks,
     /// load says how many links it followed.
     LoadSaysLinks,
+    /// The summary is no part of soundness; or only how many pages are held is; or only its totals, its low bytes, or the frames
+    /// that are used.
+    SummaryUnchecked,
+    RightsUnchecked,
+    TotalsChecked,
+    LowBytesChecked,
+    UsedFramesChecked,
+    /// The summary stays as it is in calls of this kind.
+    SummaryStays(Kind),
+    /// A frame's counts stay as long as the number of its pages does.
+    LostRightsStayCounted,
+    /// A page that is mapped over is counted at its new frame, and still at the old one.
+    OldFrameStaysCounted,
+    /// The giver of a grant is still counted.
+    GiverStaysCounted,
+    /// What stood below is still counted where a page is flushed.
+    BelowStaysCounted,
+    /// frame counts the page of space 0 too.
+    FrameCountsPool,
+    /// frame answers execute, write, read.
+    FrameOtherOrder,
+    /// frame answers a number past the last frame with zeros.
+    FramePastLast,
+    /// frame gives 5 before 1.
+    FrameFiveFirst,
+    /// frame moves the next place of the cache.
+    FrameMovesNext,
 }
 
 impl Fault {
@@ -80,7 +108,44 @@ impl Fault {
         Fault::LateFourteen,
     ];
 
-    pub const ALL: [Fault; 30] = [
+    /// The faults in what calls on a sound board leave in the summary, or answer of it.
+    pub const OF_SUMMARY: [Fault; 13] = [
+        Fault::SummaryStays(Kind::Unmap),
+        Fault::SummaryStays(Kind::Flush),
+        Fault::SummaryStays(Kind::Map),
+        Fault::SummaryStays(Kind::Grant),
+        Fault::SummaryStays(Kind::Delete),
+        Fault::LostRightsStayCounted,
+        Fault::OldFrameStaysCounted,
+        Fault::GiverStaysCounted,
+        Fault::BelowStaysCounted,
+        Fault::FrameCountsPool,
+        Fault::FrameOtherOrder,
+        Fault::FramePastLast,
+        Fault::FrameMovesNext,
+    ];
+
+    /// The faults in what is taken for a right summary, and in calls over ranges.
+    pub const OF_WRONG_SUMMARIES: [Fault; 10] = [
+        Fault::SummaryUnchecked,
+        Fault::RightsUnchecked,
+        Fault::TotalsChecked,
+        Fault::LowBytesChecked,
+        Fault::UsedFramesChecked,
+        Fault::FrameFiveFirst,
+        Fault::SummaryStays(Kind::UnmapRange),
+        Fault::SummaryStays(Kind::FlushRange),
+        Fault::SummaryStays(Kind::MapRange),
+        Fault::SummaryStays(Kind::GrantRange),
+    ];
+
+    /// Every fault.
+    pub fn all() -> Vec<Fault> {
+        [&Fault::OF_CALLS[..], &Fault::OF_SUMMARY, &Fault::OF_WRONG_SUMMARIES].concat()
+    }
+
+    /// The faults in what calls answer, and do to the tables and the memory.
+    pub const OF_CALLS: [Fault; 30] = [
         Fault::GrantSparesBelow,
         Fault::GrantTakesGranted,
         Fault::GrantTakesGrantedBelow,
@@ -158,7 +223,13 @@ fn tidy(sizes: Sizes, bytes: &mut [u8]) {
 
 /// The call as the faulty model makes it.
 fn play(fault: Fault, board: &mut Board, memory: &mut [u8], call: &Call) -> Reply {
+    let counted = board.counted();
+    if board.summary != counted && takes_summary(fault, &board.summary, &counted) {
+        board.summary = counted;
+    }
+    let before = board.clone();
     let faulty = match (fault, *call) {
+        (_, Call::Frame { frame }) => wrong_frame(fault, board, frame),
         (_, Call::Grant(asked)) if fault.changes_grant() => {
             change_lending(board, &asked, Way::Grant, |board, deal| wrong_grant(fault, board, deal))
         }
@@ -217,7 +288,9 @@ fn play(fault: Fault, board: &mut Board, memory: &mut [u8], call: &Call) -> Repl
         (Fault::LoadSaysLinks, Call::Load { .. }) => Some(wrong_links(fault, board, memory, call)),
         _ => None,
     };
-    faulty.unwrap_or_else(|| board.play(memory, call))
+    let reply = faulty.unwrap_or_else(|| board.play(memory, call));
+    miscount(fault, &before, board, call);
+    reply
 }
 
 fn reply(answer: Result<u32, Refusal>) -> Option<Reply> {
@@ -316,6 +389,7 @@ fn late_fourteen(board: &mut Board, asked: &Lending, way: Way) -> Option<Reply> 
     let taker = spot(asked.to as usize, asked.at as usize);
     let mut flushed = board.clone();
     flushed.flush_step(taker, ALL_RIGHTS);
+    flushed.recount();
     let answer = match way {
         Way::Map => flushed.map(asked),
         Way::Grant => flushed.grant(asked),
@@ -393,6 +467,70 @@ fn wrong_links(fault: Fault, board: &mut Board, memory: &mut [u8], call: &Call) 
         _ => (),
     }
     reply
+}
+
+// ---- the summary -------------------------------------------------------------------------------------------------------------
+
+/// True where a wrong summary is taken for right.
+fn takes_summary(fault: Fault, found: &[Counts], counted: &[Counts]) -> bool {
+    let each = |same: fn(&Counts, &Counts) -> bool| found.iter().zip(counted).all(|(one, other)| same(one, other));
+    let total = |summary: &[Counts], field| summary.iter().map(|counts: &Counts| counts[field] as u32).sum::<u32>();
+    match fault {
+        Fault::SummaryUnchecked => true,
+        Fault::RightsUnchecked => each(|found, counted| found[0] == counted[0]),
+        Fault::TotalsChecked => (0..4).all(|field| total(found, field) == total(counted, field)),
+        Fault::LowBytesChecked => each(|found, counted| found.map(|count| count as u8) == counted.map(|count| count as u8)),
+        Fault::UsedFramesChecked => each(|found, counted| counted[0] == 0 || found == counted),
+        _ => false,
+    }
+}
+
+/// What frame answers with a fault of it.
+fn wrong_frame(fault: Fault, board: &mut Board, frame: u32) -> Option<Reply> {
+    let past = frame as usize >= board.sizes.pages;
+    let right = board.play(&mut [], &Call::Frame { frame });
+    let out = right.out;
+    match (fault, right.number) {
+        (Fault::FrameCountsPool, 0) => Some(Reply::counts(out.map(|count| count + 1))),
+        (Fault::FrameOtherOrder, 0) => Some(Reply::counts([out[0], out[3], out[2], out[1]])),
+        (Fault::FramePastLast, 5) => Some(Reply::bare(0)),
+        (Fault::FrameFiveFirst, 1) if past => Some(Reply::bare(5)),
+        (Fault::FrameMovesNext, 0) => {
+            board.cache.next = (board.cache.next + 1) % board.sizes.places;
+            Some(right)
+        }
+        _ => None,
+    }
+}
+
+/// Leaves what a fault leaves in the summary after a call.
+fn miscount(fault: Fault, before: &Board, after: &mut Board, call: &Call) {
+    let counted_at = |board: &Board, page: (u32, u32)| board.frame(spot(page.0 as usize, page.1 as usize));
+    match (fault, *call) {
+        (Fault::SummaryStays(kind), _) if call.kind() == kind => after.summary = before.summary.clone(),
+        (Fault::LostRightsStayCounted, Call::Unmap(_) | Call::Flush(_)) => {
+            for (counts, old) in after.summary.iter_mut().zip(&before.summary) {
+                *counts = if counts[0] == old[0] { *old } else { *counts };
+            }
+        }
+        (Fault::OldFrameStaysCounted, Call::Map(asked)) if before != after => {
+            let [old, new] = [before, &*after].map(|board| counted_at(board, (asked.to, asked.at)));
+            if let (true, Some(old)) = (old != new, old) {
+                after.summary[old] = before.summary[old];
+            }
+        }
+        (Fault::GiverStaysCounted, Call::Grant(asked)) if before != after => {
+            let frame = counted_at(before, (asked.from, asked.page)).expect("the giver was held");
+            after.summary[frame][0] += 1;
+        }
+        (Fault::BelowStaysCounted, Call::Flush(asked)) if before != after => {
+            let named = spot(asked.space as usize, asked.page as usize);
+            let gone = before.pages_below(named).filter(|&page| !after.held(page)).count();
+            let frame = before.frame(named).expect("the page was held");
+            after.summary[frame][0] += gone as u16;
+        }
+        _ => (),
+    }
 }
 
 /// The board without the pages whose lines do not reach space 0.

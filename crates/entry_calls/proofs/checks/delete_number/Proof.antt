@@ -1,12 +1,9 @@
 -- `delete_number` meets its contract: the tests are the cases, in their order.
 use Rattle.entry_calls.proofs as own
-use Rattle.lend.specs.Calls.{number, cases}
+use Rattle.lend.specs.Calls.{cases}
 use borrow.Author.Needs.{needs}
 use own.checks.delete_number.Statement.{statement}
 use own.checks.delete_number.Tie as tie
-
-sound-requires : tie.Need-sound-requires
-sound-requires c κs = search needs
 
 live-at-requires : tie.Need-live-at-requires
 live-at-requires c κs = search needs
@@ -24,14 +21,13 @@ pick-requires-4 : tie.Need-pick-requires-4
 pick-requires-4 c κs = search needs
 
 returns : tie.Need-returns
-unfolding number cases
+unfolding cases
 returns c = cc
 
 pub delete-number-spec : {M : Type 1} → statement M
 delete-number-spec =
     tie.close
     (tie.spec
-    sound-requires
     live-at-requires
     pick-requires
     pick-requires-2

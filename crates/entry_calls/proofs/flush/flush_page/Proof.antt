@@ -7,7 +7,9 @@ use mathlib.Core.List.{List}
 use native.Mathlib.Omega.{arith}
 use Rattle.lend.specs.Tables.{alone}
 use Rattle.lend.specs.Calls.{Flush, number}
-use Rattle.lend_code.specs.Inner.{lineHas, withdrawnOf}
+use Rattle.lend_summary.specs.Counts.{lessAt}
+use Rattle.lend_code.specs.Inner.{lineHas, cutLost, withdrawnOf}
+use Rattle.lend_code.proofs.Withdrawals.{withdrawn-at}
 use Rattle.lend_code.proofs.Calls.{call-refused, page-checked, flush-number, flush-shows, flush-done}
 use Rattle.entry.specs.Sizes.{sizes}
 use Rattle.entry.specs.Board.{tables}
@@ -50,19 +52,37 @@ only-requires c κs = search needs
 line-has-requires : tie.Need-line-has-requires
 line-has-requires c κs = search needs
 
-cast-withdrawn : tie.Need-cast-withdrawn
-cast-withdrawn c = omega (arith, flush-shows sizes _ _ _ _ _ (numbered (c .before .before .before .before)) (c .before .before .before .if1 .left) .known-rights)
+lookup-requires : tie.Need-lookup-requires
+lookup-requires c κs = search needs
+
+cast-taken-from : tie.Need-cast-taken-from
+cast-taken-from c = omega (arith, flush-shows sizes _ _ _ _ _ (numbered (c .before .before .before .before .before .before)) (c .before .before .before .before .before .if1 .left) .known-rights)
+
+taken-from-requires : tie.Need-taken-from-requires
+taken-from-requires c κs = search needs
+
+cast-less-at : tie.Need-cast-less-at
+cast-less-at c = search needs
+
+less-at-requires : tie.Need-less-at-requires
+less-at-requires c κs = search needs
 
 withdrawn-requires : tie.Need-withdrawn-requires
 withdrawn-requires c κs = search needs
 
 returns-2 : tie.Need-returns-2
 returns-2 c =
-    let at-number = c .before .before .before .before .before in
+    let cut = c .before .before .before in
+    let end = cut .before .before in
+    let lines = end .before in
+    let at-number = lines .before .before .before .before in
     let a = at-number .before .before .before .args in
+    let b = tables (a .b) in
+    let frame : ℕ = end .lookup .result .frame in
     c .withdrawn .ensures
-    ∙ (ap (λ (l : List Bool). withdrawnOf sizes (tables (a .b)) l (a .rights)) (c .before .line-has .ensures ∙ ap (lineHas sizes (a .b .slots)) (c .before .before .only .ensures))
-    ∙ flush-done sizes _ _ _ _ _ (numbered at-number) (c .before .before .before .before .if1 .left))
+    ∙ (withdrawn-at sizes b _ (a .rights) _ _ _ frame (cut .taken-from .ensures .0) (cut .taken-from .ensures .1) (c .before .less-at .ensures)
+    ∙ (ap (λ (l : List Bool). withdrawnOf sizes b l (a .rights) (lessAt (b .summary) frame (cutLost sizes (b .slots) l (a .rights)))) (lines .line-has .ensures ∙ ap (lineHas sizes (b .slots)) (lines .before .only .ensures))
+    ∙ flush-done sizes _ _ _ _ _ (numbered at-number) (lines .before .before .before .if1 .left) frame (end .lookup .ensures .0)))
 
 pub flush-page-spec : {M : Type 1} → statement M
 flush-page-spec =
@@ -76,6 +96,10 @@ flush-page-spec =
     add-y
     only-requires
     line-has-requires
-    cast-withdrawn
+    lookup-requires
+    cast-taken-from
+    taken-from-requires
+    cast-less-at
+    less-at-requires
     withdrawn-requires
     returns-2)

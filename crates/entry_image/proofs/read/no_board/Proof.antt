@@ -12,8 +12,11 @@ empty-slot-requires c κs = search needs
 empty-place-requires : tie.Need-empty-place-requires
 empty-place-requires c κs = search needs
 
+no-count-requires : tie.Need-no-count-requires
+no-count-requires c κs = search needs
+
 returns : tie.Need-returns
-returns c = no-board-made sizes _ _ (c .before .empty-slot .ensures) (c .empty-place .ensures)
+returns c = no-board-made sizes _ _ _ (c .before .before .empty-slot .ensures) (c .before .empty-place .ensures) (c .no-count .ensures)
 
 pub no-board-spec : {M : Type 1} → statement M
-no-board-spec = tie.close (tie.spec empty-slot-requires empty-place-requires returns)
+no-board-spec = tie.close (tie.spec empty-slot-requires empty-place-requires no-count-requires returns)

@@ -13,7 +13,12 @@ use own.write.write_image.Tie as tie
 
 -- the board's arrays are as long as their types say
 shaped : (c : tie.Start) → Shaped sizes (tables (c .args .b))
-shaped c = record { slots-long = search (needs, length-unmap); live-long = search (needs, length-unmap); places-long = search (needs, length-unmap) }
+shaped c = record {
+  slots-long = search (needs, length-unmap);
+  live-long = search (needs, length-unmap);
+  places-long = search (needs, length-unmap);
+  summary-long = search (needs, length-unmap);
+}
 
 write-slots-requires : tie.Need-write-slots-requires
 write-slots-requires c κs = search needs
@@ -27,14 +32,18 @@ write-places-requires c κs = search needs
 slice-write-image : tie.Need-slice-write-image
 slice-write-image c = search needs
 
+write-summary-requires : tie.Need-write-summary-requires
+write-summary-requires c κs = simp length-set (c .before .before .before .write-places .ensures .long ∙ (c .before .before .before .before .before .before .before .write-live .ensures .long ∙ (c .before .before .before .before .before .before .before .before .before .before .before .write-slots .ensures .long ∙ c .before .before .before .before .before .before .before .before .before .before .before .before .before .before .before .before .before .before .if1 .taken)))
+
 same-length : tie.Need-same-length
-same-length c = simp length-set (c .before .before .write-places .ensures .long ∙ (c .before .before .before .before .before .before .write-live .ensures .long ∙ c .before .before .before .before .before .before .before .before .before .before .write-slots .ensures .long))
+same-length c =
+    (simp length-set at (c .before .before .write-summary .ensures .long)) ∙ (c .before .before .before .before .before .before .write-places .ensures .long ∙ (c .before .before .before .before .before .before .before .before .before .before .write-live .ensures .long ∙ c .before .before .before .before .before .before .before .before .before .before .before .before .before .before .write-slots .ensures .long))
 
 returns : tie.Need-returns
 returns c =
-    let start = c .before .before .before .before .before .before .before .before .before .before .before .before .before .before .before .before .before .before in
-    put-image sizes (tables (start .args .b)) (shaped start) (start .args .image .now) _ _ _ (c .before .before .before .before .before .before .before .before .before .before .before .before .before .before .before .before .if1 .taken)
-    (c .before .before .before .before .before .before .before .before .before .before .write-slots .ensures) (c .before .before .before .before .before .before .write-live .ensures) (c .before .before .write-places .ensures)
+    let start = c .before .before .before .before .before .before .before .before .before .before .before .before .before .before .before .before .before .before .before .before .before .before .before in
+    put-image sizes (tables (start .args .b)) (shaped start) (start .args .image .now) _ _ _ _ (c .before .before .before .before .before .before .before .before .before .before .before .before .before .before .before .before .before .before .before .before .before .if1 .taken)
+    (c .before .before .before .before .before .before .before .before .before .before .before .before .before .before .write-slots .ensures) (c .before .before .before .before .before .before .before .before .before .before .write-live .ensures) (c .before .before .before .before .before .before .write-places .ensures) (c .before .before .write-summary .ensures)
 
 returns-2 : tie.Need-returns-2
 returns-2 c = put-nothing sizes (tables (c .before .before .args .b)) (shaped (c .before .before)) _ (c .if1 .left)
@@ -47,6 +56,7 @@ write-image-spec =
     write-live-requires
     write-places-requires
     slice-write-image
+    write-summary-requires
     same-length
     returns
     returns-2)

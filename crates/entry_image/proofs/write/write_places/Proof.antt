@@ -3,6 +3,7 @@ use Rattle.entry_image.proofs as own
 use lib.ListN.{length-set}
 use Prim.Native.Nat.{_+_, _*_, _-_, _≤_}
 use mathlib.Core.Path.{_≡_, refl}
+use mathlib.Core.List.{[], _∷_}
 use native.Mathlib.Omega.{arith}
 use lib.ListN.{length}
 use Rattle.entry.specs.Sizes.{sizes}
@@ -71,9 +72,9 @@ loop-again c =
     let start = at-loop .before in
     let taken = c .before .loop-test .taken in
     let place = placeAt (start .args .t2) (at-loop .loop .i) in (
-      put-element placeBytes (λ x. refl) emptyPlace (start .args .t2) (cacheFrom sizes) (start .args .image .now) (at-loop .loop .image) (at-loop .loop .i) (cacheFrom sizes + 4 * at-loop .loop .i)
+      put-element placeBytes 4 (λ x. refl) emptyPlace (start .args .t2) (cacheFrom sizes) (start .args .image .now) (at-loop .loop .image) (at-loop .loop .i) (cacheFrom sizes + 4 * at-loop .loop .i)
           (at-loop .loop .inv .0) refl (omega (arith, taken, start .pre)) (omega (arith, taken, long start))
-          (place .space) (place .page) (place .frame) (place .rights) refl,
+          (place .space) (place .page ∷ place .frame ∷ place .rights ∷ []) refl,
       omega (arith, taken),
     )
 

@@ -80,9 +80,9 @@ loop-again c =
     let start = at-loop .before .before in
     let taken = c .before .before .before .before .loop-test .taken in
     let rights = slotAt (start .args .t2) (at-loop .loop .k) .rights in (
-      put-element slotBytes (λ x. refl) emptySlot (start .args .t2) 0 (start .args .image .now) (at-loop .loop .image) (at-loop .loop .k) (4 * at-loop .loop .k)
+      put-element slotBytes 4 (λ x. refl) emptySlot (start .args .t2) 0 (start .args .image .now) (at-loop .loop .image) (at-loop .loop .k) (4 * at-loop .loop .k)
           (at-loop .loop .inv .0) (omega arith) (omega (arith, taken, start .pre)) (omega (arith, taken, long start))
-          (c .before .before .kind .result) (c .before .first .result) (c .second .result) rights
+          (c .before .before .kind .result) (c .before .first .result ∷ c .second .result ∷ rights ∷ [])
           (λ i. c .before .before .kind .ensures i ∷ c .before .first .ensures i ∷ c .second .ensures i ∷ rights ∷ []),
       omega (arith, taken),
     )

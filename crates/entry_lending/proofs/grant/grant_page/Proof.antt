@@ -3,7 +3,9 @@ use Rattle.entry_lending.proofs as own
 use mathlib.Core.Path.{_≡_, refl, _∙_}
 use mathlib.Core.Bool.{_||_}
 use native.Mathlib.Omega.{arith}
-use lib.Dec.{eqb}
+use Prim.Native.Nat.{_<_}
+use lib.Dec.{eqb, lit<}
+use Rattle.lend.specs.Sizes.{slotCount}
 use Rattle.lend_code.specs.Lending.{namedNumber}
 use Rattle.lend_code.proofs.LendingNumbers.{NamedFine, grant-named-fine, giver-in, taker-in}
 use Rattle.lend_code.proofs.LendingCalls.{named-checked, grant-refused, grant-refused-lines, grant-done}
@@ -12,6 +14,10 @@ use Rattle.entry.specs.Board.{tables}
 use borrow.Author.Needs.{needs}
 use own.grant.grant_page.Statement.{statement}
 use own.grant.grant_page.Tie as tie
+
+-- a count of all pages fits into 16 bits
+few : slotCount sizes < 65535
+few = lit< tt
 
 -- the number of what is named, on a board that is known to be sound
 named : (c : tie.After-named-number)
@@ -32,7 +38,7 @@ refused-requires : tie.Need-refused-requires
 refused-requires c κs = search needs
 
 returns : tie.Need-returns
-returns c = c .refused .ensures ∙ grant-refused sizes _ _ _ _ _ _ _ (named (c .before .before)) (c .before .if1 .taken)
+returns c = c .refused .ensures ∙ grant-refused sizes few _ _ _ _ _ _ _ (named (c .before .before)) (c .before .if1 .taken)
 
 cast-asked : tie.Need-cast-asked
 cast-asked c = omega (arith, fine c .known-rights)
@@ -75,18 +81,18 @@ returns-2 c =
     let at-lines = c .before .before in
     let at-slots = at-lines .before .before .before .before .before in
     c .refused2 .ensures
-    ∙ grant-refused-lines sizes _ _ _ _ _ _ _ (named (at-slots .before .before)) (at-slots .before .if1 .left) _ _ _ _
+    ∙ grant-refused-lines sizes few _ _ _ _ _ _ _ (named (at-slots .before .before)) (at-slots .before .if1 .left) _ _ _ _
     (at-lines .before .before .before .only .ensures) (at-lines .before .before .line-has .ensures) (at-lines .before .source-of .ensures) (at-lines .lines-number .ensures)
     (c .before .if2 .taken)
 
-cut-requires : tie.Need-cut-requires
-cut-requires c κs = search needs
+taken-from-requires : tie.Need-taken-from-requires
+taken-from-requires c κs = search needs
 
 mul-new : tie.Need-mul-new
 mul-new c = search needs
 
 array-set-from-new : tie.Need-array-set-from-new
-array-set-from-new c = taker-in (fine (c .before .before .before .before .before .before .before))
+array-set-from-new c = taker-in (fine (c .before .before .before .before .before .before .before .before))
 
 only-requires-2 : tie.Need-only-requires-2
 only-requires-2 c κs = search needs
@@ -97,28 +103,44 @@ line-has-requires-2 c κs = search needs
 giver-loses-requires : tie.Need-giver-loses-requires
 giver-loses-requires c κs = search needs
 
-cut-requires-2 : tie.Need-cut-requires-2
-cut-requires-2 c κs = search needs
+taken-from-requires-2 : tie.Need-taken-from-requires-2
+taken-from-requires-2 c κs = search needs
+
+linked-requires : tie.Need-linked-requires
+linked-requires c κs = search needs
+
+lookup-requires : tie.Need-lookup-requires
+lookup-requires c κs = search needs
+
+cast-less-at : tie.Need-cast-less-at
+cast-less-at c = search needs
+
+less-at-requires : tie.Need-less-at-requires
+less-at-requires c κs = search needs
 
 cast-taken : tie.Need-cast-taken
-cast-taken c = omega (arith, fine (c .before .before .before .before .before .before .before .before .before .before .before) .taker-space)
+cast-taken c = omega (arith, fine (c .before .before .before .before .before .before .before .before .before .before .before .before .before .before .before .before .before .before) .taker-space)
 
 cast-taken-2 : tie.Need-cast-taken-2
-cast-taken-2 c = omega (arith, fine (c .before .before .before .before .before .before .before .before .before .before .before) .taker-page)
+cast-taken-2 c = omega (arith, fine (c .before .before .before .before .before .before .before .before .before .before .before .before .before .before .before .before .before .before) .taker-page)
 
 taken-requires : tie.Need-taken-requires
 taken-requires c κs = search needs
 
 returns-3 : tie.Need-returns-3
 returns-3 c =
-    let at-only = c .before .before .before .before in
-    let at-lines = at-only .before .before .before in
+    let end = c .before .before .before in
+    let given = end .before .before .before .before in
+    let at-only = given .before .before .before in
+    let freed = at-only .before .before in
+    let at-lines = freed .before .before in
     let at-slots = at-lines .before .before .before .before .before in
     c .taken .ensures
-    ∙ grant-done sizes _ _ _ _ _ _ _ (named (at-slots .before .before)) (at-slots .before .if1 .left) _ _ _ _
+    ∙ grant-done sizes few _ _ _ _ _ _ _ (named (at-slots .before .before)) (at-slots .before .if1 .left) _ _ _ _
     (at-lines .before .before .before .only .ensures) (at-lines .before .before .line-has .ensures) (at-lines .before .source-of .ensures) (at-lines .lines-number .ensures)
-    (at-only .before .before .if2 .left)
-    _ (at-only .before .cut .ensures) _ refl _ (at-only .only2 .ensures) _ (c .before .before .before .line-has2 .ensures) _ (c .before .before .giver-loses .ensures) _ (c .before .cut2 .ensures)
+    (freed .before .if2 .left) _ (freed .taken-from .ensures .0) _ (freed .taken-from .ensures .1)
+    _ refl _ (at-only .only2 .ensures) _ (given .before .before .line-has2 .ensures) _ (given .before .giver-loses .ensures)
+    _ (given .taken-from2 .ensures .0) _ (given .taken-from2 .ensures .1) _ (end .before .linked .ensures) _ (end .lookup .ensures .0) _ (c .before .less-at .ensures)
 
 pub grant-page-spec : {M : Type 1} → statement M
 grant-page-spec =
@@ -140,13 +162,17 @@ grant-page-spec =
     lines-number-requires
     refused-requires-2
     returns-2
-    cut-requires
+    taken-from-requires
     mul-new
     array-set-from-new
     only-requires-2
     line-has-requires-2
     giver-loses-requires
-    cut-requires-2
+    taken-from-requires-2
+    linked-requires
+    lookup-requires
+    cast-less-at
+    less-at-requires
     cast-taken
     cast-taken-2
     taken-requires

@@ -32,7 +32,7 @@ returns c =
     let found = counted .before .before in
     let a = found .before .before .before .before .args in
     rw (c .before .drop-lost .ensures, dropped .drop-entry .ensures)
-    (taken-made sizes (tables (a .b)) (a .new) (a .to) (a .at) (found .place-for .result) (c .lost-all .result) (counted .rights-of .result) (dropped .before .rights-of2 .result)
+    (taken-made sizes (tables (a .b)) (a .new) (a .counts) (a .to) (a .at) (found .place-for .result) (c .lost-all .result) (counted .rights-of .result) (dropped .before .rights-of2 .result)
     (found .place-for .ensures) (counted .rights-of .ensures) (dropped .before .rights-of2 .ensures) (c .lost-all .ensures))
 
 pub taken-spec : {M : Type 1} → statement M

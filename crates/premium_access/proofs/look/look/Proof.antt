@@ -56,7 +56,7 @@ returns-2 c =
     let entry : Place = record { space = a .space; page = a .page; frame = end .frame; rights = slotAt (a .b .slots) (at-inside .inside .result) .rights } in
     let put : c .insert .result ≡ insertIn (a .b .cache) entry = c .insert .ensures ∙ ap (λ (f : Found). insertIn (f .cache) entry) (at-find .find .ensures) in
     (λ i. record {
-      board = record { slots = a .b .slots; live = a .b .live; places = put i .places; next = put i .next };
+      board = record { slots = a .b .slots; live = a .b .live; places = put i .places; next = put i .next; summary = a .b .summary };
       frame = end .frame;
       links = end .links;
       hit = false;

@@ -21,9 +21,12 @@ array-write-live-2 c = search needs
 empty-place-requires : tie.Need-empty-place-requires
 empty-place-requires c κs = search needs
 
+no-count-requires : tie.Need-no-count-requires
+no-count-requires c κs = search needs
+
 returns : tie.Need-returns
 unfolding tabulateFrom
-returns c = start-made sizes _ _ _ (c .before .start-slots .ensures) refl (c .empty-place .ensures)
+returns c = start-made sizes _ _ _ _ (c .before .before .start-slots .ensures) refl (c .before .empty-place .ensures) (c .no-count .ensures)
 
 pub start-spec : {M : Type 1} → statement M
 start-spec =
@@ -33,4 +36,5 @@ start-spec =
     array-write-live
     array-write-live-2
     empty-place-requires
+    no-count-requires
     returns)

@@ -10,7 +10,9 @@ use lib.ListN.{set}
 use Rattle.lend.specs.Sizes.{key}
 use Rattle.lend.specs.Tables.{alone}
 use Rattle.lend.specs.Calls.{Unmap, number}
-use Rattle.lend_code.specs.Inner.{lineHas, withdrawnOf}
+use Rattle.lend_summary.specs.Counts.{lessAt}
+use Rattle.lend_code.specs.Inner.{lineHas, cutLost, withdrawnOf}
+use Rattle.lend_code.proofs.Withdrawals.{withdrawn-at}
 use Rattle.lend_code.proofs.Calls.{call-refused, page-checked, unmap-number, unmap-shows, unmap-done, named-in}
 use Rattle.premium.specs.Sizes.{sizes}
 use Rattle.premium.specs.Board.{tables}
@@ -52,20 +54,38 @@ line-has-requires c κs = search needs
 array-write-below : tie.Need-array-write-below
 array-write-below c = named-in (unmap-shows sizes _ _ _ _ _ (numbered (c .before .before .before .before)) (c .before .before .before .if1 .left))
 
-cast-withdrawn : tie.Need-cast-withdrawn
-cast-withdrawn c = omega (arith, unmap-shows sizes _ _ _ _ _ (numbered (c .before .before .before .before)) (c .before .before .before .if1 .left) .known-rights)
+lookup-requires : tie.Need-lookup-requires
+lookup-requires c κs = search needs
+
+cast-taken-from : tie.Need-cast-taken-from
+cast-taken-from c = omega (arith, unmap-shows sizes _ _ _ _ _ (numbered (c .before .before .before .before .before .before)) (c .before .before .before .before .before .if1 .left) .known-rights)
+
+taken-from-requires : tie.Need-taken-from-requires
+taken-from-requires c κs = search needs
+
+cast-less-at : tie.Need-cast-less-at
+cast-less-at c = search needs
+
+less-at-requires : tie.Need-less-at-requires
+less-at-requires c κs = search needs
 
 withdrawn-requires : tie.Need-withdrawn-requires
 withdrawn-requires c κs = search needs
 
 returns-2 : tie.Need-returns-2
 returns-2 c =
-    let at-number = c .before .before .before .before .before in
+    let cut = c .before .before .before in
+    let end = cut .before .before in
+    let lines = end .before in
+    let at-number = lines .before .before .before .before in
     let a = at-number .before .before .args in
+    let b = tables (a .b) in
     let y : ℕ = key sizes (a .space) (a .page) in
+    let frame : ℕ = end .lookup .result .frame in
     c .withdrawn .ensures
-    ∙ (ap (λ (l : List Bool). withdrawnOf sizes (tables (a .b)) (set l y false) (a .rights)) (c .before .line-has .ensures ∙ ap (lineHas sizes (a .b .slots)) (c .before .before .only .ensures))
-    ∙ unmap-done sizes _ _ _ _ _ (numbered at-number) (c .before .before .before .before .if1 .left))
+    ∙ (withdrawn-at sizes b _ (a .rights) _ _ _ frame (cut .taken-from .ensures .0) (cut .taken-from .ensures .1) (c .before .less-at .ensures)
+    ∙ (ap (λ (l : List Bool). withdrawnOf sizes b (set l y false) (a .rights) (lessAt (b .summary) frame (cutLost sizes (b .slots) (set l y false) (a .rights)))) (lines .line-has .ensures ∙ ap (lineHas sizes (b .slots)) (lines .before .only .ensures))
+    ∙ unmap-done sizes _ _ _ _ _ (numbered at-number) (lines .before .before .before .if1 .left) frame (end .lookup .ensures .0)))
 
 pub unmap-page-spec : {M : Type 1} → statement M
 unmap-page-spec =
@@ -79,6 +99,10 @@ unmap-page-spec =
     only-requires
     line-has-requires
     array-write-below
-    cast-withdrawn
+    lookup-requires
+    cast-taken-from
+    taken-from-requires
+    cast-less-at
+    less-at-requires
     withdrawn-requires
     returns-2)

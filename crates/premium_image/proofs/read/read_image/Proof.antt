@@ -33,11 +33,14 @@ read-places-requires c κs = search needs
 shared-slice-read-t11 : tie.Need-shared-slice-read-t11
 shared-slice-read-t11 c = search needs
 
+read-summary-requires : tie.Need-read-summary-requires
+read-summary-requires c κs = search needs
+
 returns-3 : tie.Need-returns-3
 returns-3 c =
-    let slots = c .before .before .before .before .before .before .before .before .read-slots .ensures in
-    let live = c .before .before .before .before .before .before .before .read-live .ensures in
-    board-good sizes _ _ _ (slots .0) (live .0) _ _ _ (c .before .before .before .before .before .before .before .before .before .if1 .left) (not-false _ (c .before .before .before .before .if2 .left)) (slots .1) (live .1) (c .before .read-places .ensures)
+    let slots = c .before .before .before .before .before .before .before .before .before .read-slots .ensures in
+    let live = c .before .before .before .before .before .before .before .before .read-live .ensures in
+    board-good sizes _ _ _ (slots .0) (live .0) _ _ _ _ (c .before .before .before .before .before .before .before .before .before .before .if1 .left) (not-false _ (c .before .before .before .before .before .if2 .left)) (slots .1) (live .1) (c .before .before .read-places .ensures) (c .read-summary .ensures)
 
 pub read-image-spec : {M : Type 1} → statement M
 read-image-spec =
@@ -51,4 +54,5 @@ read-image-spec =
     returns-2
     read-places-requires
     shared-slice-read-t11
+    read-summary-requires
     returns-3)

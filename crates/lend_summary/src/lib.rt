@@ -1,0 +1,1 @@
+// What the calls do to the frame summary, and what its counts mean: statements in specs/, proofs in proofs/; no code.
