@@ -11,18 +11,7 @@ for word in "$@"; do
     if [ "$word" = --write ]; then write=yes; else words+=("$word"); fi
 done
 
-# Each library, and a second copy of it whose copies of memory are counted: the same object, with other names outside.
-LEND_OBJECTS=
-for name in lend_entry lend_premium; do
-    bench/native.sh "$name"
-    library=$PWD/build/native/$name.o
-    counting=$PWD/build/native/${name}_counting.o
-    nm -g "$library" | awk '{print $NF, "counting_" $NF}' >build/native/names
-    objcopy --redefine-syms=build/native/names "$library" "$counting"
-    LEND_OBJECTS+="$library $counting "
-done
-export LEND_OBJECTS CARGO_TARGET_DIR=$PWD/build/cargo
-cargo build --quiet --release --offline --manifest-path bench/Cargo.toml
+bench/build.sh
 
 # script WORD NAME: builds the script program NAME and names it to the bench by the option WORD.
 script() {

@@ -69,6 +69,7 @@ macro_rules! library {
             over_image!($prefix, map(from, page, to, at, rights));
             over_image!($prefix, grant(from, page, to, at, rights));
             over_image!($prefix, translate(space, address, rights));
+            over_image!($prefix, frame(frame));
             over_memory!($prefix, load(space: u32, address: u32));
             over_memory!($prefix, store(space: u32, address: u32, value: u8));
             over_image!($prefix, unmap_range(space, base, size, rights));

@@ -3,7 +3,8 @@ use super::boards::{request, Kind, Ring};
 use super::calls::{Call, CALLS};
 use super::image_plain::{image_of, IMAGE};
 use super::own::Board;
-use super::{MEMORY, SPACES};
+use super::plain::Tables;
+use super::{MEMORY, PAGES, SPACES};
 use crate::library::{Numbers, OnImage, Out};
 use crate::random::Random;
 
@@ -59,7 +60,16 @@ pub fn on_ring(call: &Call, ring: &Ring) -> usize {
     ring.boards.len()
 }
 
-/// Every call with random numbers, bad ones among them, on random boards and on damaged images.
+/// The board with one count of its summary changed.
+fn miscounted(random: &mut Random, board: &Board) -> Board {
+    let (mut board, frame) = (board.clone(), random.below(PAGES as u32) as usize);
+    let mut counts = board.counts(frame);
+    counts.0[random.below(4) as usize] ^= 1 << random.below(16);
+    board.set_counts(frame, counts);
+    board
+}
+
+/// Every call with random numbers, bad ones among them, on random boards, on damaged images and on boards with a wrong summary.
 pub fn at_random(random: &mut Random, boards: usize) -> usize {
     let mut compared = 0;
     for kind in Kind::all().into_iter().cycle().take(boards) {
@@ -67,6 +77,7 @@ pub fn at_random(random: &mut Random, boards: usize) -> usize {
         let image = image_of(&board);
         let mut damaged = image;
         damaged[random.below(IMAGE as u32) as usize] = random.below(SPACES as u32 + 2) as u8;
+        let wrong = miscounted(random, &board);
         for call in &CALLS {
             for _ in 0..8 {
                 let mut numbers = request(random, call.name, SPACES as u32 + 1);
@@ -75,7 +86,8 @@ pub fn at_random(random: &mut Random, boards: usize) -> usize {
                 }
                 all_three(call, &board, &image, &numbers);
                 same(call, &numbers, &on_image(call.library, &damaged, &numbers), &on_image(call.image, &damaged, &numbers));
-                compared += 2;
+                all_three(call, &wrong, &image_of(&wrong), &numbers);
+                compared += 3;
             }
         }
     }

@@ -2,7 +2,7 @@
 use super::calls::call;
 use super::image_plain::{image_of, IMAGE};
 use super::own::Board;
-use super::plain::{Link, Slot, Tables};
+use super::plain::{sound_with_summary, Link, Slot, Tables};
 use super::{LONG_LINES, MEMORY, PAGES, PAGE_BYTES, PLACES, SLOTS, SPACES};
 use crate::library::{Numbers, Out};
 use crate::random::Random;
@@ -100,6 +100,7 @@ pub fn request(random: &mut Random, name: &str, spaces: u32) -> Numbers {
         "unmap" | "flush" => [space, page, rights, 0, 0, 0, 0],
         "map" | "grant" => [space, page, random.below(spaces), random.below(PAGES as u32), rights, 0, 0],
         "translate" => [space, address, rights, 0, 0, 0, 0],
+        "frame" => [page, 0, 0, 0, 0, 0, 0],
         "load" | "store" => [space, address, random.below(256), 0, 0, 0, 0],
         "unmap_range" | "flush_range" => {
             let (base, size) = range(random);
@@ -140,6 +141,12 @@ fn fill_cache(random: &mut Random, board: &mut Board) {
     make(board, "translate", &[0, random.below(MEMORY as u32), 4, 0, 0, 0, 0]);
 }
 
+/// A board whose pages were put there by hand, with the summary that makes it sound.
+pub fn with_summary(mut board: Board) -> Board {
+    assert!(sound_with_summary(&mut board), "a board made by hand is not sound");
+    board
+}
+
 /// A board whose every line has one page: only space 0 holds pages.
 fn flat(random: &mut Random) -> Board {
     let mut board = Board::start();
@@ -165,7 +172,7 @@ fn deep(random: &mut Random, length: usize) -> Board {
         }
         lender = space;
     }
-    board
+    with_summary(board)
 }
 
 /// A board whose space 1 holds every page of space 0, at another page number; all other spaces are live and empty.
@@ -175,7 +182,7 @@ fn lent(random: &mut Random) -> Board {
     for (page, at) in random.shuffled::<PAGES>().into_iter().enumerate() {
         board.set_slot(PAGES + page, Slot { link: Link::Page(0, at as u8), rights: 7 });
     }
-    board
+    with_summary(board)
 }
 
 /// How many random commands a mixed board has had: 400 and 1,600.

@@ -1,6 +1,6 @@
 //! The shape that every column's calls have, so that one loop can time them all.
 use super::own::Board;
-use super::plain::Refusal;
+use super::plain::{Counts, Refusal};
 use super::ranges::Done;
 use super::{counting, image_plain, own, proved};
 use crate::library::{Numbers, OnImage, Out};
@@ -27,6 +27,7 @@ macro_rules! each_call {
             out[1..3].copy_from_slice(&answer.map_or([0, 0], |found| [u32::from(found.hit), found.links]));
             super::calls::answer(answer.map(|found| found.address), out)
         });
+        $make!(frame, |b, _memory, n, out| super::calls::counts_answer(super::plain::frame(b, n[0]), out));
         $make!(load, |b, memory, n, out| super::calls::answer(super::plain::load(b, memory, n[0], n[1]).map(u32::from), out));
         $make!(store, |b, memory, n, out| {
             super::calls::answer(super::plain::store(b, memory, n[0], n[1], n[2] as u8).map(|()| 0), out)
@@ -44,6 +45,17 @@ pub fn answer(answer: Result<u32, Refusal>, out: &mut Out) -> u32 {
     match answer {
         Ok(first) => {
             out[0] = first;
+            0
+        }
+        Err(refusal) => refusal as u32,
+    }
+}
+
+/// The number of an answer that is a frame's counts, each put where it belongs.
+pub fn counts_answer(answer: Result<Counts, Refusal>, out: &mut Out) -> u32 {
+    match answer {
+        Ok(Counts(counts)) => {
+            *out = counts.map(u32::from);
             0
         }
         Err(refusal) => refusal as u32,
@@ -75,7 +87,7 @@ pub struct Call {
 macro_rules! table {
     ($($name:ident)*) => {
         /// Every call.
-        pub const CALLS: [Call; 15] = [$(Call {
+        pub const CALLS: [Call; 16] = [$(Call {
             name: stringify!($name),
             library: proved::$name,
             counting: counting::$name,
@@ -84,7 +96,7 @@ macro_rules! table {
         }),*];
     };
 }
-table!(start sound create delete unmap flush map grant translate load store unmap_range flush_range map_range grant_range);
+table!(start sound create delete unmap flush map grant translate frame load store unmap_range flush_range map_range grant_range);
 
 /// The call of that name.
 pub fn call(name: &str) -> Call {

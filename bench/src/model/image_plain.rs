@@ -1,13 +1,14 @@
 //! Plain Rust, second way: the board stays in the byte image of include/lend.h and is read and changed there.
-use super::plain::{self, Link, Place, Slot, Tables};
-use super::{PLACES, SLOTS, SPACES};
+use super::plain::{self, Counts, Link, Place, Slot, Tables};
+use super::{PAGES, PLACES, SLOTS, SPACES};
 use crate::library::{Numbers, Out};
 
 const LIVE: usize = 4 * SLOTS;
 const CACHE: usize = LIVE + SPACES;
 const NEXT: usize = CACHE + 4 * PLACES;
+const SUMMARY: usize = NEXT + 1;
 /// The length of an image.
-pub const IMAGE: usize = NEXT + 1;
+pub const IMAGE: usize = SUMMARY + 8 * PAGES;
 
 /// A board in its image.
 pub struct Image<'a>(&'a mut [u8; IMAGE]);
@@ -72,6 +73,17 @@ impl Tables for Image<'_> {
     fn set_next(&mut self, next: usize) {
         self.0[NEXT] = next as u8;
     }
+    fn counts(&self, frame: usize) -> Counts {
+        let at = SUMMARY + 8 * frame;
+        let bytes: [u8; 8] = self.0[at..at + 8].try_into().expect("eight bytes");
+        Counts(std::array::from_fn(|i| u16::from_le_bytes([bytes[2 * i], bytes[2 * i + 1]])))
+    }
+    fn set_counts(&mut self, frame: usize, counts: Counts) {
+        let at = SUMMARY + 8 * frame;
+        for (bytes, count) in self.0[at..at + 8].chunks_exact_mut(2).zip(counts.0) {
+            bytes.copy_from_slice(&count.to_le_bytes());
+        }
+    }
 }
 
 /// The start board, over any bytes of an image's length.
@@ -87,6 +99,7 @@ pub fn copy_tables(from: &impl Tables, to: &mut impl Tables) {
     (0..SPACES).for_each(|space| to.set_live(space, from.live(space)));
     (0..PLACES).for_each(|at| to.set_place(at, from.place(at)));
     to.set_next(from.next());
+    (0..PAGES).for_each(|frame| to.set_counts(frame, from.counts(frame)));
 }
 
 /// The image of a board.

@@ -1,6 +1,6 @@
 //! A listing in plain Rust, written from document 02 (M-102), on the image of include/lend.h: the board as text, the text as a board.
 use super::image_plain::{start_over, Image};
-use super::plain::{sound, Link, Place, Slot, Tables};
+use super::plain::{sound, sound_with_summary, Link, Place, Slot, Tables};
 use super::{PAGES, PLACES, SLOTS, SPACES};
 use crate::library::Out;
 use std::io::Write as _;
@@ -82,7 +82,7 @@ fn read_into(board: &mut impl Tables, text: &[u8]) -> Option<u32> {
     ordered &= single(line, "held=", HELD)? == count;
     (0..SPACES).for_each(|space| board.set_live(space, live >> space & 1 == 1));
     (0..PLACES).for_each(|at| board.set_place(at, Place::default()));
-    Some(if !ordered { 18 } else { u32::from(!sound(board)) })
+    Some(if !ordered { 18 } else { u32::from(!sound_with_summary(board)) })
 }
 
 /// Reads a listing over an image; the start board where it is refused.

@@ -1,4 +1,5 @@
 //! The table of listings: a board written and read back, at three sizes, by the library and by plain Rust on the image.
+use super::boards::with_summary;
 use super::image_plain::{image_of, IMAGE};
 use super::listing::{self, listing};
 use super::own::Board;
@@ -21,7 +22,7 @@ fn board(random: &mut Random, held: usize) -> Board {
         let rights = 1 + random.below(7) as u8;
         board.set_slot(page, Slot { link: Link::Page(0, random.below(PAGES as u32) as u8), rights });
     }
-    board
+    with_summary(board)
 }
 
 fn plain_write(image: &mut [u8], text: &mut [u8], _: &Numbers, out: &mut Out) -> u32 {

@@ -1,6 +1,6 @@
 //! Plain Rust, first way: the board in a struct of its own, changed through `&mut`.
-use super::plain::{self, Place, Slot, Tables};
-use super::{PLACES, SLOTS, SPACES};
+use super::plain::{self, Counts, Place, Slot, Tables};
+use super::{PAGES, PLACES, SLOTS, SPACES};
 use crate::library::{Numbers, Out};
 
 /// A board.
@@ -10,13 +10,19 @@ pub struct Board {
     live: [bool; SPACES],
     places: [Place; PLACES],
     next: u8,
+    summary: [Counts; PAGES],
 }
 
 impl Board {
     /// The board at boot.
     pub fn start() -> Board {
-        let mut board =
-            Board { slots: [Slot::EMPTY; SLOTS], live: [false; SPACES], places: [Place::default(); PLACES], next: 0 };
+        let mut board = Board {
+            slots: [Slot::EMPTY; SLOTS],
+            live: [false; SPACES],
+            places: [Place::default(); PLACES],
+            next: 0,
+            summary: [Counts::default(); PAGES],
+        };
         plain::start(&mut board);
         board
     }
@@ -46,6 +52,12 @@ impl Tables for Board {
     }
     fn set_next(&mut self, next: usize) {
         self.next = next as u8;
+    }
+    fn counts(&self, frame: usize) -> Counts {
+        self.summary[frame]
+    }
+    fn set_counts(&mut self, frame: usize, counts: Counts) {
+        self.summary[frame] = counts;
     }
 }
 

@@ -44,6 +44,31 @@ impl Place {
     }
 }
 
+/// Of the pages outside space 0 whose line ends at a frame: how many there are, with read, with write, with execute.
+#[derive(Clone, Copy, PartialEq, Eq, Debug, Default)]
+pub struct Counts(pub [u16; 4]);
+
+impl Counts {
+    /// What one page with such rights counts for; nothing where it has none.
+    const OF_PAGE: [[u16; 4]; 8] =
+        [[0, 0, 0, 0], [1, 0, 0, 1], [1, 0, 1, 0], [1, 0, 1, 1], [1, 1, 0, 0], [1, 1, 0, 1], [1, 1, 1, 0], [1, 1, 1, 1]];
+
+    fn of_page(rights: u8) -> Counts {
+        Counts(Counts::OF_PAGE[(rights & ALL) as usize])
+    }
+
+    fn plus(self, more: Counts) -> Counts {
+        Counts(std::array::from_fn(|i| self.0[i].wrapping_add(more.0[i])))
+    }
+
+    fn minus(self, fewer: Counts) -> Counts {
+        Counts(std::array::from_fn(|i| self.0[i].wrapping_sub(fewer.0[i])))
+    }
+}
+
+/// The counts of every frame.
+type Summary = [Counts; PAGES];
+
 /// Why a call was refused.
 #[derive(Clone, Copy, PartialEq, Eq, Debug)]
 pub enum Refusal {
@@ -74,6 +99,8 @@ pub trait Tables {
     fn set_place(&mut self, at: usize, place: Place);
     fn next(&self) -> usize;
     fn set_next(&mut self, next: usize);
+    fn counts(&self, frame: usize) -> Counts;
+    fn set_counts(&mut self, frame: usize, counts: Counts);
 }
 
 /// A physical address, and whether its page was in the cache.
@@ -113,7 +140,7 @@ fn below<T: Tables>(b: &T, page: usize, top: usize) -> bool {
 }
 
 /// The frame at the end of a held page's line.
-fn frame<T: Tables>(b: &T, page: usize) -> Option<u8> {
+fn end<T: Tables>(b: &T, page: usize) -> Option<u8> {
     match b.slot(line(b, page).last()?).link {
         Link::Frame(frame) => Some(frame),
         _ => None,
@@ -140,21 +167,34 @@ fn slot_fits<T: Tables>(b: &T, page: usize) -> bool {
     }
 }
 
-/// Whether a held page's line reaches space 0 and meets no space twice, with every page's link known to be in range.
-fn line_fits<T: Tables>(b: &T, page: usize) -> bool {
+/// The frame of a held page whose line reaches space 0 and meets no space twice, with every page itself known to fit.
+fn fitting_end<T: Tables>(b: &T, page: usize) -> Option<usize> {
     let mut met = [false; SPACES];
     let mut at = page;
     loop {
         let space = at / PAGES;
         if met[space] {
-            return false;
+            return None;
         }
         met[space] = true;
         match parent(b, at) {
             Some(up) => at = up,
-            None => return space == 0,
+            None => return (space == 0).then_some(at),
         }
     }
+}
+
+/// Counts a page that is known to fit itself, where it is held; whether its line fits.
+fn count_page<T: Tables>(b: &T, page: usize, summary: &mut Summary) -> bool {
+    let slot = b.slot(page);
+    if !slot.held() {
+        return true;
+    }
+    let Some(frame) = fitting_end(b, page) else { return false };
+    if page >= PAGES {
+        summary[frame] = summary[frame].plus(Counts::of_page(slot.rights));
+    }
+    true
 }
 
 fn place_fits<T: Tables>(b: &T, at: usize) -> bool {
@@ -169,18 +209,31 @@ fn place_fits<T: Tables>(b: &T, at: usize) -> bool {
     let slot = b.slot(page);
     slot.held()
         && slot.rights == place.rights
-        && frame(b, page) == Some(place.frame)
+        && end(b, page) == Some(place.frame)
         && (0..at).map(|i| b.place(i)).all(|p| !p.filled() || (p.space, p.page) != (place.space, place.page))
 }
 
-/// Whether the board is sound: every line is followed to the top.
+/// Whether pages and lines fit; every line is followed to the top, and its page counted at its frame.
+fn pages_fit<T: Tables>(b: &T, summary: &mut Summary) -> bool {
+    b.live(0) && b.live(1) && (0..SLOTS).all(|page| slot_fits(b, page)) && (0..SLOTS).all(|page| count_page(b, page, summary))
+}
+
+fn cache_fits<T: Tables>(b: &T) -> bool {
+    (0..PLACES).all(|at| place_fits(b, at)) && b.next() < PLACES
+}
+
+/// Whether the board is sound.
 pub fn sound<T: Tables>(b: &T) -> bool {
-    b.live(0)
-        && b.live(1)
-        && (0..SLOTS).all(|page| slot_fits(b, page))
-        && (0..SLOTS).all(|page| !b.slot(page).held() || line_fits(b, page))
-        && (0..PLACES).all(|at| place_fits(b, at))
-        && b.next() < PLACES
+    let mut summary = [Counts::default(); PAGES];
+    pages_fit(b, &mut summary) && (0..PAGES).all(|frame| b.counts(frame) == summary[frame]) && cache_fits(b)
+}
+
+/// Whether the board is sound once it has the summary of its pages, which is put in.
+pub fn sound_with_summary<T: Tables>(b: &mut T) -> bool {
+    let mut summary = [Counts::default(); PAGES];
+    let fits = pages_fit(b, &mut summary) && cache_fits(b);
+    (0..PAGES).for_each(|frame| b.set_counts(frame, summary[frame]));
+    fits
 }
 
 // ---- checks
@@ -230,11 +283,21 @@ fn insert<T: Tables>(b: &mut T, place: Place) {
 
 // ---- withdrawal
 
-/// Takes rights from every page for which `touched` holds on the board as it is; says how many became empty.
-fn withdraw<T: Tables>(b: &mut T, rights: u8, touched: impl Fn(&T, usize) -> bool) -> u32 {
+/// Counts a page at its frame with other rights than before.
+fn recount<T: Tables>(b: &mut T, frame: u8, before: u8, after: u8) {
+    let frame = frame as usize;
+    b.set_counts(frame, b.counts(frame).minus(Counts::of_page(before)).plus(Counts::of_page(after)));
+}
+
+/// Takes rights from every page that `touched` gives the frame of, on the board as it is; says how many became empty.
+fn withdraw<T: Tables>(b: &mut T, rights: u8, touched: impl Fn(&T, usize) -> Option<u8>) -> u32 {
     let mut marked = [false; SLOTS];
     for (page, mark) in marked.iter_mut().enumerate() {
-        *mark = touched(b, page);
+        if let Some(frame) = touched(b, page) {
+            *mark = true;
+            let before = b.slot(page).rights;
+            recount(b, frame, before, before & !rights);
+        }
     }
     let mut emptied = 0;
     for page in (0..SLOTS).filter(|&page| marked[page]) {
@@ -250,12 +313,15 @@ fn withdraw<T: Tables>(b: &mut T, rights: u8, touched: impl Fn(&T, usize) -> boo
     emptied
 }
 
+/// The pages below a page end where it does; an empty page has none below it, and no rights to count.
 fn unmap_page<T: Tables>(b: &mut T, page: usize, rights: u8) -> u32 {
-    withdraw(b, rights, |b, at| below(b, at, page))
+    let frame = end(b, page).unwrap_or(0);
+    withdraw(b, rights, |b, at| below(b, at, page).then_some(frame))
 }
 
 fn flush_page<T: Tables>(b: &mut T, page: usize, rights: u8) -> u32 {
-    withdraw(b, rights, |b, at| at == page || below(b, at, page))
+    let frame = end(b, page).unwrap_or(0);
+    withdraw(b, rights, |b, at| (at == page || below(b, at, page)).then_some(frame))
 }
 
 // ---- the calls
@@ -272,6 +338,9 @@ pub fn start<T: Tables>(b: &mut T) {
         b.set_place(at, Place::default());
     }
     b.set_next(0);
+    for frame in 0..PAGES {
+        b.set_counts(frame, Counts::default());
+    }
 }
 
 pub fn create<T: Tables>(b: &mut T, space: u32) -> Result<u32, Refusal> {
@@ -286,7 +355,7 @@ pub fn delete<T: Tables>(b: &mut T, space: u32) -> Result<u32, Refusal> {
     check_sound(b)?;
     check_spaces(b, &[space])?;
     refuse_if(space < 2, Refusal::Pool)?;
-    let emptied = withdraw(b, ALL, |b, page| line(b, page).any(|at| at / PAGES == space as usize));
+    let emptied = withdraw(b, ALL, |b, page| end(b, line(b, page).find(|&at| at / PAGES == space as usize)?));
     b.set_live(space as usize, false);
     Ok(emptied)
 }
@@ -339,6 +408,7 @@ fn relink<T: Tables>(b: &mut T, source: usize, taker: usize, rights: u32) -> u32
     let emptied = flush_page(b, taker, ALL) - u32::from(was_held);
     let link = Link::Page((source / PAGES) as u8, (source % PAGES) as u8);
     b.set_slot(taker, Slot { link, rights: rights as u8 });
+    recount(b, end(b, source).unwrap_or(0), 0, rights as u8);
     emptied
 }
 
@@ -383,7 +453,7 @@ fn look_up<T: Tables>(b: &mut T, page: usize) -> (u8, bool) {
     if let Some(place) = find(b, page) {
         return (place.frame, true);
     }
-    let frame = frame(b, page).unwrap_or(0);
+    let frame = end(b, page).unwrap_or(0);
     enter(b, page, frame);
     (frame, false)
 }
@@ -402,6 +472,13 @@ fn look_far<T: Tables>(b: &mut T, page: usize) -> (u8, bool, u32) {
         enter(b, page, frame);
     }
     (frame, hit, links)
+}
+
+/// The counts of a frame.
+pub fn frame<T: Tables>(b: &T, frame: u32) -> Result<Counts, Refusal> {
+    check_sound(b)?;
+    check_pages(&[frame])?;
+    Ok(b.counts(frame as usize))
 }
 
 /// The numbers of an access, and then its page.

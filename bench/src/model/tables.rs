@@ -70,6 +70,8 @@ fn rows() -> Vec<Row> {
     rows.extend(long().map(|kind| Row::new(flush, "flush_range", kind, all_emptied)));
     rows.push(Row::new("map of all pages", "map_range", Kind::Lent, all_done));
     rows.push(Row::new("grant of all pages", "grant_range", Kind::Lent, all_done));
+    // New rows come last, so that those above keep their boards.
+    rows.push(Row::new("frame", "frame", Kind::Mixed, done));
     rows
 }
 
