@@ -1,5 +1,7 @@
 // Translations on a board of this model, and the bytes of memory that they lead to. A board goes in by value and comes back with
 // the answer; every input is taken.
+#![tactic(auto)]
+
 mod checks;
 pub mod load;
 mod look;
@@ -11,7 +13,7 @@ use model::Board;
 
 // What translate answers: the number, the physical address, whether the page was in the cache, how many links lead from the page to
 // its frame, and the next board.
-#[derive(Drop)]
+#[derive(Clone, Copy)]
 pub struct Translated {
     pub board: Board,
     pub number: u32,
@@ -21,7 +23,7 @@ pub struct Translated {
 }
 
 // What load answers: the number, the byte, and the next board.
-#[derive(Drop)]
+#[derive(Clone, Copy)]
 pub struct Loaded {
     pub board: Board,
     pub number: u32,
@@ -29,7 +31,7 @@ pub struct Loaded {
 }
 
 // What store answers: the number and the next board; the byte is in memory.
-#[derive(Drop)]
+#[derive(Clone, Copy)]
 pub struct Stored {
     pub board: Board,
     pub number: u32,

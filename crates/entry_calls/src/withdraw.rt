@@ -16,7 +16,7 @@ use model::sizes::{PAGES, SLOTS};
 use model::summary::losses;
 
 // A board from which rights were withdrawn, with the summary it had before, and what was lost.
-#[derive(Drop)]
+#[derive(Clone, Copy)]
 pub struct Cut {
     pub board: Board,
     pub lost: Count,

@@ -12,14 +12,14 @@ use model::summary::no_count;
 use model::{Board, Cache};
 
 // The slots that were read, and whether every one of them is a slot's bytes.
-#[derive(Drop)]
+#[derive(Clone, Copy)]
 struct SlotsRead {
     pub ok: bool,
     pub slots: [Slot; SLOTS],
 }
 
 // The live spaces that were read, and whether every byte is 0 or 1.
-#[derive(Drop)]
+#[derive(Clone, Copy)]
 struct LiveRead {
     pub ok: bool,
     pub live: [bool; SPACES],

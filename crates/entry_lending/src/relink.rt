@@ -18,7 +18,7 @@ use model::summary::{less_at, losses, more_at};
 use model::tlb::place_for;
 
 // Slots from which rights were withdrawn, and what was lost.
-#[derive(Drop)]
+#[derive(Clone, Copy)]
 pub struct Cut {
     pub slots: [Slot; SLOTS],
     pub lost: Count,

@@ -16,7 +16,7 @@ use model::sound::sound;
 use text::write::{put_held, put_live};
 
 // What the writer answers: the number, and how many bytes of listing stand at the buffer's start.
-#[derive(Drop)]
+#[derive(Clone, Copy)]
 pub struct Written {
     pub number: u32,
     pub length: usize,

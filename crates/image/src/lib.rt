@@ -1,5 +1,7 @@
 // The byte image of a board: what one link and one slot have to do with their bytes, for every size of table. In specs/ the whole image
 // and its reading, in proofs/ that each undoes the other.
+#![tactic(auto)]
+
 ghost use Rattle.std.specs.Prelude.{◌≡◌};
 ghost use Rattle.image.specs.Image.{kind_of, first_in, second_in, low_byte, high_byte, link_reads, slot_from, place_from, number_from};
 

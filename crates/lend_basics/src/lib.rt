@@ -1,1 +1,2 @@
 // Laws on tests, rights and lists, in proofs/; no code.
+#![tactic(auto)]

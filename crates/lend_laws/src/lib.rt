@@ -1,1 +1,2 @@
 // Laws on what calls do to a sound board, in proofs/; no code.
+#![tactic(auto)]

@@ -1,1 +1,2 @@
 // Laws on lending, translation and every call together, in proofs/; no code.
+#![tactic(auto)]

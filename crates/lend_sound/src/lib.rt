@@ -1,1 +1,2 @@
 // Laws on lines and on soundness, in proofs/; no code.
+#![tactic(auto)]

@@ -1,5 +1,7 @@
 // The listing's line of a slot, written out: once for both models. The whole listing is the definition `listing_of`, and its reader the
 // definition `reading`, both in specs/; the laws that a model's loops stand on are in proofs/.
+#![tactic(auto)]
+
 ghost use Rattle.std.specs.Prelude.{◌≡◌};
 ghost use Rattle.text.specs.Write.{Wrote};
 ghost use Rattle.listing.specs.Listing.{slot_line};

@@ -1,5 +1,7 @@
 // What a line of a script says, written out: once for both models. The whole program is the
 // definition `script_output` in specs/, and the laws that a model's loop stands on are in proofs/.
+#![tactic(auto)]
+
 ghost use Rattle.std.specs.Prelude.{◌≡◌};
 ghost use Rattle.text.specs.Write.{Wrote};
 ghost use Rattle.script.specs.Script.{said_line};
@@ -16,7 +18,7 @@ pub const FOR_A_PAGE: usize = 83;
 pub const FOR_THE_END: usize = 32;
 
 // What a line says: a comment nothing, a malformed line its number 16, translate where it came to, any other call what it emptied.
-#[derive(Drop)]
+#[derive(Clone, Copy)]
 pub enum Said {
     Silent,
     Garbled,
