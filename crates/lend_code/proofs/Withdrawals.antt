@@ -96,7 +96,11 @@ module _ (z : Sizes) (b : Tables) (sound : Sound z b) (pages : List Bool) (d : �
 
   places_are : dropped_where z (lost_in before after) b.places ≡ dropped_where z (λ k. lost_right (table_of b) (slot_at new) k || no_taker k) b.places
   unfolding lost_right
-  places_are = ap (λ (t : ℕ → Bool). dropped_where z t b.places) (fun_ext (λ k. rw (before_at k, after_at k) (sym (or_false (lost_right (table_of b) (slot_at new) k)))))
+  places_are =
+      ap (λ (t : ℕ → Bool). dropped_where z t b.places)
+      (fun_ext
+      (λ k. let same : lost_in before after k ≡ (lost_right (table_of b) (slot_at new) k || no_taker k) = rw (before_at k, after_at k) (sym (or_false (lost_right (table_of b) (slot_at new) k))) in
+      same))
 
   -- where one frame lost it all, the counts that the board had serve for the new ones
   pub counts_less : (i : ℕ) → less_at b.summary i (cut_lost z b.slots pages d) ≡ less_at (summary_of z (table_of b)) i (lost_of (slot_count z) b.slots new)
