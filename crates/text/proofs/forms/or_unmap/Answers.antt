@@ -1,0 +1,10 @@
+-- `or_unmap` meets its contract.
+use Rattle.text.proofs as own
+use Rattle.text.specs as spec
+use spec.Request.{unmap_or}
+use borrow.Author.Rules.{rules}
+use own.forms.or_unmap.Goals as goal
+
+pub returns : goal.returns
+unfolding unmap_or
+returns c = cc

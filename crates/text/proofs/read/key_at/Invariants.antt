@@ -1,0 +1,14 @@
+-- `key_at` meets its contract: what is left to match is what was to be matched.
+use Rattle.text.proofs as own
+use own.Reading.{Matching, match_out, match_other, match_more, match_all}
+use mathlib.Core.Path.{refl}
+use lib.ListN.{length}
+use Prim.Native.Nat.{◌-◌}
+use borrow.Author.Rules.{rules}
+use own.read.key_at.Given as goal
+
+abbrev pub invariant-loop-i : goal.invariant-loop-i
+invariant-loop-i l = Matching l.s l.key l.at l.p l.i
+
+abbrev pub decreases-loop-i : goal.decreases-loop-i
+decreases-loop-i l = length l.key - l.i

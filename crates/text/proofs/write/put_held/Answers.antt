@@ -1,0 +1,11 @@
+-- `put_held` meets its contract: its writes in a row.
+use Rattle.text.proofs as own
+use Rattle.text.specs as spec
+use spec.Write.{held_line}
+use own.Writing.{wrote_more}
+use borrow.Author.Rules.{rules}
+use own.write.put_held.Goals as goal
+
+pub returns : goal.returns
+unfolding held_line
+returns c = wrote_more c.put_entry-p.ensures c.put_byte.ensures
