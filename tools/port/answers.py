@@ -1,7 +1,7 @@
 #!/usr/bin/env python3
 """Turns the hand form of a function's proof (Proof.antt, a tie of its needs) into today's Invariants.antt and Answers.antt.
 
-usage: tools/port/answers.py CRATE [--all]     at the top. Without --all an answer is written only where a check with the invariants alone leaves
+usage: tools/port/answers.py CRATE [F ..] [--all]     at the top. Without --all an answer is written only where a check with the invariants alone leaves
                                                the goal open; the old file goes to /tmp/port-proofs/CRATE.
 It reads the old and the new name of each goal and step from `rt check --generated --old-names`. What it can't turn it prints.
 """
@@ -171,9 +171,15 @@ def main():
     names = json.load(open(out + "/names.json"))
     params = params_of(crate)
     funs = {}
+    chosen = [w for w in sys.argv[2:] if not w.startswith("-")]
     for folder, dirs, ns in os.walk(old):
         if "Proof.antt" in ns:
             rel = os.path.relpath(folder, old)
+            if chosen and rel not in chosen:
+                continue
+            answers = os.path.join(root, rel, "Answers.antt")
+            if os.path.exists(answers):
+                os.remove(answers)
             key = f"Rattle-{crate}-proofs." + rel.replace("/", ".") + ".Lts"
             if key not in names:
                 print(f"{rel}: no names ({[k for k in names if rel.split('/')[-1].lstrip('+') in k][:3]}): by hand")
