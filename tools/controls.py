@@ -12,6 +12,7 @@ is 1 where something failed.
 import concurrent.futures
 import glob
 import os
+import re
 import shutil
 import subprocess
 import sys
@@ -60,7 +61,7 @@ def tried(top, crate, texts):
     if run.returncode == 0:
         return 'proved', ''
     # of a function that rattle proves by itself the word is a note
-    first = next((line for line in lines if ': error: ' in line or 'it is not proved' in line), lines[0]).replace(f'{top}/', '')
+    first = next((line for line in lines if re.search(r'\berror(\[[\w-]+\])?: ', line) or 'it is not proved' in line), lines[0]).replace(f'{top}/', '')
     return ('refused' if 'logic=not-proved' in lines else 'BROKEN'), f': {first[:CUT]}'
 
 
