@@ -114,16 +114,13 @@ class Fun:
                         if plain(step) == plain(old) and rest[:len(parts)] == parts and parts:
                             return ".".join(["c", arm[0], name] + rest[len(parts):])
                     return ".".join(["c", arm[0]] + rest)
+                if p[3] and rest and rest[0] == "ensures":
+                    rest = ["ensures"] + by_label(rest[1:], LABELS.get(p[3].split("::")[-1], []))
                 return ".".join(["c", new] + rest)
             seen = p[1]
         return None
 
     def turned(self, body, place, said):
-        while True:
-            m = re.search(rf"let ({NAME})(?: : [^=]*)? = (\(?c(?:\.before)*\)?) in\s*", body)
-            if not m:
-                break
-            body = body[:m.start()] + re.sub(rf"(?<![\w.'-]){re.escape(m.group(1))}(?![\w'-])", m.group(2).strip("()"), body[m.end():])
         def one(m):
             n = m.group(1).count(".before")
             fields = [x for x in m.group(2).split(".") if x]
@@ -132,7 +129,116 @@ class Fun:
                 said.append(f"path {m.group(0)} at {place}")
                 return m.group(0)
             return got
-        return re.sub(rf"(?<![\w.'-])c((?:\.before)*)((?:\.{NAME})+)", one, body)
+        body = re.sub(rf"(?<![\w.'-])c((?:\.before)*)((?:\.{NAME})+)", one, body)
+        # a test of `!x` tells of x today
+        body = re.sub(rf"(?<![\w.'-])not-(?:true|false) _ (c\.if-not-{NAME}\.(?:true|false))", r"\1", body)
+        return re.sub(rf"(?<![\w.'-])not-(?:true|false) _ \((c\.if-not-{NAME}\.(?:true|false))\)", r"\1", body)
+
+
+def unlet(body):
+    """A step that has a name of its own, as in `let at = c.before.before in`, is written out."""
+    while True:
+        m = re.search(rf"let ({NAME})(?: : [^=]*)? = (\(?c(?:\.before)*(?:\.args)?\)?) in\s*", body)
+        if not m:
+            return body
+        body = body[:m.start()] + re.sub(rf"(?<![\w.'-]){re.escape(m.group(1))}(?![\w'-])", m.group(2).strip("()"), body[m.end():])
+
+
+def pair_path(k, n):
+    """Where the k-th of n clauses stood in the nested pair."""
+    return ["1"] * k + (["0"] if k < n - 1 else [])
+
+
+def by_label(fields, labels):
+    """What follows `.ensures`, by the clause's name."""
+    n = len(labels)
+    if n < 2:
+        return fields
+    for k, label in enumerate(labels):
+        path = pair_path(k, n)
+        if fields[:len(path)] == path:
+            return [label] + fields[len(path):]
+    return fields
+
+
+def closing(text, i):
+    depth = 0
+    for j in range(i, len(text)):
+        depth += (text[j] in "([{") - (text[j] in ")]}")
+        if depth == 0:
+            return j
+    return -1
+
+
+def parts(text):
+    """The parts of a tuple's inside, at its top."""
+    out, depth, start = [], 0, 0
+    for j, ch in enumerate(text):
+        depth += (ch in "([{") - (ch in ")]}")
+        if ch == "," and depth == 0:
+            out.append(text[start:j].strip())
+            start = j + 1
+    out.append(text[start:].strip())
+    return [x for x in out if x]
+
+
+def as_record(text, labels):
+    """An answer that is a nested pair at its end, as a record of the clauses' names."""
+    n = len(labels)
+    if n < 2 or not text.rstrip().endswith(")"):
+        return text
+    t = text.rstrip()
+    for m in re.finditer(r"\(", t):
+        if closing(t, m.start()) == len(t) - 1:
+            before = t[:m.start()].rstrip()
+            if not (before.endswith("=") or before.endswith(" in") or before.endswith("\nin")):
+                return text
+            xs = parts(t[m.start() + 1:-1])
+            if len(xs) < 2:
+                return text
+            while len(xs) < n and xs[-1].startswith("(") and closing(xs[-1], 0) == len(xs[-1]) - 1:
+                xs = xs[:-1] + parts(xs[-1][1:-1])
+            if len(xs) != n:
+                return text
+            return before + " record {\n" + "\n".join(f"      {l} = {x};" for l, x in zip(labels, xs)) + "\n    }"
+    return text
+
+
+def labels_of():
+    """The names of each function's ensures, by the function's name."""
+    out = {}
+    for folder, dirs, names in os.walk("crates"):
+        dirs[:] = [d for d in dirs if d != "out"]
+        for n in names:
+            if n.endswith(".rt"):
+                t = open(os.path.join(folder, n)).read()
+                for m in re.finditer(r"(?s)\bfn (\w+)\b(.*?)\n\s*\{\n", t):
+                    out.setdefault(m.group(1), re.findall(r"(?m)^\s+ensures (\w+) \{", m.group(2)))
+    return out
+
+
+def inlined(text, helpers):
+    """Facts that the old form stated once over a step, as `long c`, become a `let` in the answer."""
+    m = re.match(r"(?s)((?:unfolding[^\n]*\n)*)([^\n]*?) =(.*)$", text)
+    if not m:
+        return text
+    front, lhs, rhs = m.group(1), m.group(2), m.group(3)
+    lets = []
+    for _ in range(4):
+        for name, (kind, body) in helpers.items():
+            for u in list(re.finditer(rf"\(?(?<![\w.'-]){re.escape(name)} (c(?:\.before)*)(?![\w.'-])\)?", "\n".join(lets) + rhs)):
+                arg = u.group(1)
+                sub = lambda s: re.sub(r"(?<![\w.'-])c(?![\w'-])", arg, s)
+                entry = f"let {name} : {sub(kind)} = {sub(body.strip())} in"
+                whole = rf"\(({re.escape(name)}) {re.escape(arg)}\)|(?<![\w.'-]){re.escape(name)} {re.escape(arg)}(?![\w.'-])"
+                lets = [re.sub(whole, name, l) for l in lets]
+                rhs = re.sub(whole, name, rhs)
+                if not any(l.startswith(f"let {name} :") for l in lets):
+                    lets.insert(0, entry)
+                break
+    if not lets:
+        return text
+    return front + lhs + " =\n    " + "\n    ".join(lets) + "\n    " + rhs.strip()
 
 
 def params_of(crate):
@@ -151,8 +257,12 @@ def params_of(crate):
     return out
 
 
+LABELS = {}
+
+
 def main():
     crate = sys.argv[1]
+    LABELS.update(labels_of())
     root = f"crates/{crate}/proofs"
     old = f"{KEPT}/{crate}"
     if not os.path.isdir(old):
@@ -237,7 +347,15 @@ def main():
         print(len(open_goals), "goals open with the invariants alone;", len(re.findall(r"(?m): proved$", log)), "proved")
     for rel, (fun, head, decls, uses, comments, path, has_inv) in sorted(parsed.items()):
         out_, said, kept = [], [], 0
+        helpers = {}
         for name, kind, body, comment in decls:
+            m = re.match(r"^\(c : tie\.[^)]*\) → (.*)$", kind)
+            mm = re.match(rf"(?s)^{re.escape(name)} c =(.*)$", "\n".join(body))
+            if m and mm:
+                helpers[name] = (m.group(1), mm.group(1))
+        for name, kind, body, comment in decls:
+            if name in helpers:
+                continue
             if name == "--":
                 out_.append("\n".join(body))
                 continue
@@ -255,7 +373,9 @@ def main():
                     continue
                 kept += 1
                 text = re.sub(rf"(?m)^{re.escape(name)}( c)( κs)?( =)", rf"{new} c\3", text)
-                text = fun.turned(text, place, said)
+                text = fun.turned(inlined(unlet(text), helpers), place, said)
+                if m.group(1).startswith("returns"):
+                    text = as_record(text, LABELS.get(rel.split("/")[-1], []))
                 out_.append(f"pub {new} : goal.{new}\n{text}\n")
             else:
                 text2 = fun.turned(text, fun.f["places"][0][0], said) if "tie." not in kind else text

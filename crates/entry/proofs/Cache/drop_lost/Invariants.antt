@@ -1,0 +1,21 @@
+-- `drop_lost` meets its contract. The invariant: the places before i are as they come to, the others as they were.
+use Rattle.entry.proofs as own
+use Rattle.entry.specs as spec
+use Prim.Native.Nat.{◌-◌}
+use mathlib.Core.Path.{◌≡◌, refl, ◌∙◌}
+use mathlib.Core.Logic.{⊎_elim}
+use borrow.Author.Rules.{rules}
+use lib.Dec.{lit<}
+use lib.ListN.{length}
+use Rattle.lend.specs.Sizes.{slot_count}
+use Rattle.lend_basics.proofs.Lists.{length_unmap}
+use Rattle.lend_code.proofs.Cache.{Dropping, dropping_none, dropping_yes, dropping_no, dropping_all}
+use Rattle.lend_code.proofs.Fits.{inside_in}
+use spec.Sizes.{sizes}
+use own.Cache.drop_lost.Given as goal
+
+abbrev pub invariant-loop-i : goal.invariant-loop-i
+invariant-loop-i l = Dropping sizes l.before l.after l.initial.self.places l.self.places l.i × (l.self.next ≡ l.initial.self.next)
+
+abbrev pub decreases-loop-i : goal.decreases-loop-i
+decreases-loop-i l = sizes.places - l.i

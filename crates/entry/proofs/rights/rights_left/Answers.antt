@@ -1,0 +1,18 @@
+use Rattle.entry.proofs as own
+use Rattle.entry.specs as spec
+use Prim.Native.Nat.{◌-◌}
+use mathlib.Core.Path.{◌≡◌, ◌∙◌}
+use native.Mathlib.Omega.{arith}
+use borrow.Author.Rules.{rules}
+use lib.ListN.{length, get_or}
+use Rattle.lend.specs.Sizes.{slot_count}
+use Rattle.lend_basics.proofs.Loops.{Changed, changed_none, changed_more, changed_to}
+use Rattle.lend_code.specs.Inner.{has, left_of, rights_left}
+use spec.Sizes.{sizes}
+use own.rights.rights_left.Goals as goal
+
+pub returns : goal.returns
+unfolding rights_left
+returns c =
+    let long : length c.args.rights ≡ slot_count sizes = search rules in
+    changed_to _ _ _ _ _ _ c.loop-k.invariant long c.loop-k-test.false

@@ -1,0 +1,19 @@
+-- `rights_left` meets its contract. The invariant: before k stands what is left, from k on what was there.
+use Rattle.entry.proofs as own
+use Rattle.entry.specs as spec
+use Prim.Native.Nat.{◌-◌}
+use mathlib.Core.Path.{◌≡◌, ◌∙◌}
+use native.Mathlib.Omega.{arith}
+use borrow.Author.Rules.{rules}
+use lib.ListN.{length, get_or}
+use Rattle.lend.specs.Sizes.{slot_count}
+use Rattle.lend_basics.proofs.Loops.{Changed, changed_none, changed_more, changed_to}
+use Rattle.lend_code.specs.Inner.{has, left_of, rights_left}
+use spec.Sizes.{sizes}
+use own.rights.rights_left.Given as goal
+
+abbrev pub invariant-loop-k : goal.invariant-loop-k
+invariant-loop-k l = Changed 0 (λ j. left_of (get_or l.initial.rights j 0) (has l.set j) l.d) l.initial.rights l.rights l.k
+
+abbrev pub decreases-loop-k : goal.decreases-loop-k
+decreases-loop-k l = slot_count sizes - l.k

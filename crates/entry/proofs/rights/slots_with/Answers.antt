@@ -1,0 +1,19 @@
+use Rattle.entry.proofs as own
+use Rattle.entry.specs as spec
+use Prim.Native.Nat.{◌-◌}
+use mathlib.Core.Path.{◌≡◌, ◌∙◌}
+use native.Mathlib.Omega.{arith}
+use borrow.Author.Rules.{rules}
+use lib.ListN.{length, get_or}
+use Rattle.lend.specs.Sizes.{slot_count}
+use Rattle.lend.specs.Slots.{empty_slot, slot_at, with_rights}
+use Rattle.lend_basics.proofs.Loops.{Changed, changed_none, changed_more, changed_to}
+use Rattle.lend_code.specs.Inner.{slots_with}
+use spec.Sizes.{sizes}
+use own.rights.slots_with.Goals as goal
+
+pub returns : goal.returns
+unfolding slots_with
+returns c =
+    let long : length c.args.slots ≡ slot_count sizes = search rules in
+    changed_to _ _ _ _ _ _ c.loop-k.invariant long c.loop-k-test.false

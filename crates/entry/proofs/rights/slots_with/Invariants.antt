@@ -1,0 +1,20 @@
+-- `slots_with` meets its contract. The invariant: before k stand the new slots, from k on the old ones.
+use Rattle.entry.proofs as own
+use Rattle.entry.specs as spec
+use Prim.Native.Nat.{◌-◌}
+use mathlib.Core.Path.{◌≡◌, ◌∙◌}
+use native.Mathlib.Omega.{arith}
+use borrow.Author.Rules.{rules}
+use lib.ListN.{length, get_or}
+use Rattle.lend.specs.Sizes.{slot_count}
+use Rattle.lend.specs.Slots.{empty_slot, slot_at, with_rights}
+use Rattle.lend_basics.proofs.Loops.{Changed, changed_none, changed_more, changed_to}
+use Rattle.lend_code.specs.Inner.{slots_with}
+use spec.Sizes.{sizes}
+use own.rights.slots_with.Given as goal
+
+abbrev pub invariant-loop-k : goal.invariant-loop-k
+invariant-loop-k l = Changed empty_slot (λ j. with_rights (get_or l.rights j 0) (slot_at l.initial.slots j)) l.initial.slots l.slots l.k
+
+abbrev pub decreases-loop-k : goal.decreases-loop-k
+decreases-loop-k l = slot_count sizes - l.k

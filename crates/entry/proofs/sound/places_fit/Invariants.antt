@@ -1,0 +1,22 @@
+-- `places_fit` meets its contract. The invariant: every place before i is in order. One that is not settles the answer.
+use Rattle.entry.proofs as own
+use Rattle.entry.specs as spec
+use Prim.Native.Nat.{◌-◌}
+use mathlib.Core.Path.{◌≡◌, sym, ◌∙◌}
+use mathlib.Core.Bool.{◌&&◌, ◌||◌}
+use lib.Dec.{eqb, lit<}
+use borrow.Author.Tests.{not-true, not-false}
+use Rattle.lend.specs.Cache.{place_at}
+use Rattle.lend_basics.proofs.Loops.{Tested, tested_none, tested_more}
+use Rattle.lend_code.specs.Inner.{place_ok}
+use Rattle.lend_code.proofs.Fits.{inside_in}
+use Rattle.lend_code.proofs.SoundCode.{place_tested, places_not, places_all}
+use spec.Sizes.{sizes}
+use borrow.Author.Rules.{rules}
+use own.sound.places_fit.Given as goal
+
+abbrev pub invariant-loop-i : goal.invariant-loop-i
+invariant-loop-i l = Tested (λ j. place_ok sizes l.rights l.frames l.places j (place_at l.places j)) l.i
+
+abbrev pub decreases-loop-i : goal.decreases-loop-i
+decreases-loop-i l = sizes.places - l.i

@@ -1,0 +1,16 @@
+-- `losses` meets its contract. The invariant: each of the four counts the pages before k that lost what it is about.
+use Rattle.entry.proofs as own
+use Rattle.entry.specs as spec
+use Prim.Native.Nat.{◌-◌, ◌≤◌}
+use native.Mathlib.Omega.{arith}
+use borrow.Author.Rules.{rules}
+use Rattle.lend.specs.Sizes.{slot_count}
+use Rattle.lend_code.proofs.Summary.{Losing, bit_small, losing_none, losing_more, losing_all}
+use spec.Sizes.{sizes}
+use own.summary.losses.Given as goal
+
+abbrev pub invariant-loop-k : goal.invariant-loop-k
+invariant-loop-k l = Losing l.before l.after l.held l.read l.write l.execute l.k × (l.k ≤ slot_count sizes)
+
+abbrev pub decreases-loop-k : goal.decreases-loop-k
+decreases-loop-k l = slot_count sizes - l.k

@@ -1,0 +1,22 @@
+-- `same_counts` meets its contract. The invariant: the counts before i are the same. One that is not settles the answer.
+use Rattle.entry.proofs as own
+use Rattle.entry.specs as spec
+use Prim.Native.Nat.{◌-◌}
+use mathlib.Core.Path.{◌≡◌, refl, sym, ap, ◌∙◌}
+use native.Mathlib.Omega.{arith}
+use lib.ListN.{length}
+use borrow.Author.Tests.{eq-eqb, not-true, not-false}
+use Rattle.lend.specs.Summary.{count_at}
+use Rattle.lend.specs.SoundTest.{same_count}
+use Rattle.lend_basics.proofs.Loops.{Tested, tested_none, tested_more}
+use Rattle.lend_basics.proofs.Lists.{length_unmap}
+use Rattle.lend_code.proofs.Summary.{counts_not, counts_all}
+use spec.Sizes.{sizes}
+use borrow.Author.Rules.{rules}
+use own.summary.same_counts.Given as goal
+
+abbrev pub invariant-loop-i : goal.invariant-loop-i
+invariant-loop-i l = Tested (λ j. same_count (count_at l.these j) (count_at l.those j)) l.i
+
+abbrev pub decreases-loop-i : goal.decreases-loop-i
+decreases-loop-i l = sizes.pages - l.i

@@ -1,0 +1,24 @@
+use Rattle.entry.proofs as own
+use Rattle.entry.specs as spec
+use Prim.Native.Nat.{◌-◌}
+use mathlib.Core.Path.{◌≡◌, sym, ◌∙◌}
+use native.Mathlib.Omega.{arith}
+use borrow.Author.Rules.{rules}
+use lib.ListN.{length}
+use Rattle.lend.specs.Cache.{names, place_for}
+use Rattle.lend_code.proofs.Cache.{Missed, missed_none, missed_more, lowest_found, lowest_none}
+use spec.Sizes.{sizes}
+use own.tlb.place_for.Goals as goal
+
+pub returns-then-names : goal.returns-then-names
+unfolding place_for
+returns-then-names c =
+    let long : length c.args.places ≡ sizes.places = search rules in
+    lowest_found _ _ _ c.loop-k.invariant (omega (arith, long)) (sym c.names.ensures ∙ c.if-names.true)
+
+pub returns : goal.returns
+unfolding place_for
+returns c =
+    let long : length c.args.places ≡ sizes.places = search rules in
+    let e = long in
+    sym e ∙ lowest_none _ _ _ c.loop-k.invariant (omega arith)

@@ -1,0 +1,18 @@
+-- `place_for` meets its contract. The invariant: no place before k names the page.
+use Rattle.entry.proofs as own
+use Rattle.entry.specs as spec
+use Prim.Native.Nat.{◌-◌}
+use mathlib.Core.Path.{◌≡◌, sym, ◌∙◌}
+use native.Mathlib.Omega.{arith}
+use borrow.Author.Rules.{rules}
+use lib.ListN.{length}
+use Rattle.lend.specs.Cache.{names, place_for}
+use Rattle.lend_code.proofs.Cache.{Missed, missed_none, missed_more, lowest_found, lowest_none}
+use spec.Sizes.{sizes}
+use own.tlb.place_for.Given as goal
+
+abbrev pub invariant-loop-k : goal.invariant-loop-k
+invariant-loop-k l = Missed (names l.space l.page) l.places l.k
+
+abbrev pub decreases-loop-k : goal.decreases-loop-k
+decreases-loop-k l = sizes.places - l.k
