@@ -130,6 +130,7 @@ class Fun:
                 return m.group(0)
             return got
         body = re.sub(rf"(?<![\w.'-])c((?:\.before)*)((?:\.{NAME})+)", one, body)
+        body = re.sub(r"(call_unsound .*?) (c\.if-not-sound\.true)", r"\1 (ap not \2)", body)
         # a test of `!x` tells of x today
         body = re.sub(rf"(?<![\w.'-])not-(?:true|false) _ (c\.if-not-{NAME}\.(?:true|false))", r"\1", body)
         return re.sub(rf"(?<![\w.'-])not-(?:true|false) _ \((c\.if-not-{NAME}\.(?:true|false))\)", r"\1", body)
@@ -138,10 +139,10 @@ class Fun:
 def unlet(body):
     """A step that has a name of its own, as in `let at = c.before.before in`, is written out."""
     while True:
-        m = re.search(rf"let ({NAME})(?: : [^=]*)? = (\(?c(?:\.before)*(?:\.args)?\)?) in\s*", body)
+        m = re.search(rf"let ({NAME}) = (\(?c(?:\.before)*(?:\.args)?\)?) in\s*", body)
         if not m:
             return body
-        body = body[:m.start()] + re.sub(rf"(?<![\w.'-]){re.escape(m.group(1))}(?![\w'-])", m.group(2).strip("()"), body[m.end():])
+        body = body[:m.start()] + re.sub(rf"(?<!let )(?<![\w.'-]){re.escape(m.group(1))}(?![\w'-])", m.group(2).strip("()"), body[m.end():])
 
 
 def pair_path(k, n):
@@ -373,7 +374,7 @@ def main():
                     continue
                 kept += 1
                 text = re.sub(rf"(?m)^{re.escape(name)}( c)( κs)?( =)", rf"{new} c\3", text)
-                text = fun.turned(inlined(unlet(text), helpers), place, said)
+                text = fun.turned(unlet(inlined(unlet(text), helpers)), place, said)
                 if m.group(1).startswith("returns"):
                     text = as_record(text, LABELS.get(rel.split("/")[-1], []))
                 out_.append(f"pub {new} : goal.{new}\n{text}\n")
