@@ -115,7 +115,7 @@ class Fun:
                             return ".".join(["c", arm[0], name] + rest[len(parts):])
                     return ".".join(["c", arm[0]] + rest)
                 if p[3] and rest and rest[0] == "ensures":
-                    rest = ["ensures"] + by_label(rest[1:], LABELS.get(p[3].split("::")[-1], []))
+                    rest = ["ensures"] + by_label(rest[1:], LABELS.get(p[3].split("::")[0] + "::" + p[3].split("::")[-1], []))
                 return ".".join(["c", new] + rest)
             seen = p[1]
         return None
@@ -214,7 +214,7 @@ def labels_of():
             if n.endswith(".rt"):
                 t = open(os.path.join(folder, n)).read()
                 for m in re.finditer(r"(?s)\bfn (\w+)\b(.*?)\n\s*\{\n", t):
-                    out.setdefault(m.group(1), re.findall(r"(?m)^\s+ensures (\w+) \{", m.group(2)))
+                    out.setdefault(folder.split("/")[1] + "::" + m.group(1), re.findall(r"(?m)^\s+ensures (\w+) \{", m.group(2)))
     return out
 
 
@@ -376,7 +376,7 @@ def main():
                 text = re.sub(rf"(?m)^{re.escape(name)}( c)( κs)?( =)", rf"{new} c\3", text)
                 text = fun.turned(unlet(inlined(unlet(text), helpers)), place, said)
                 if m.group(1).startswith("returns"):
-                    text = as_record(text, LABELS.get(rel.split("/")[-1], []))
+                    text = as_record(text, LABELS.get(crate + "::" + rel.split("/")[-1], []))
                 out_.append(f"pub {new} : goal.{new}\n{text}\n")
             else:
                 text2 = fun.turned(text, fun.f["places"][0][0], said) if "tie." not in kind else text

@@ -32,5 +32,5 @@ returns c =
       hit = false;
     })
     ∙ look_miss sizes (tables c.args.b) c.args.space c.args.page c.find-found.result.hit (ap (λ (f : Found). f.hit) c.find-found.ensures)
-    c.key-k.result end.frame end.links c.inside.result c.key-k.ensures c.lookup-end.ensures
+    c.key-k.result end.frame end.links c.inside.result c.key-k.ensures (c.lookup-end.ensures.frame, c.lookup-end.ensures.links)
     c.inside.ensures c.if-found.false

@@ -6,7 +6,7 @@ use Rattle.entry.specs.Sizes.{sizes}
 use own.translate.counted.Goals as goal
 
 pub returns-then-hit : goal.returns-then-hit
-returns-then-hit c = counted_hit sizes _ _ _ _ _ _ _ _ c.key.ensures c.lookup-end.ensures c.if-hit.true
+returns-then-hit c = counted_hit sizes _ _ _ _ _ _ _ _ c.key.ensures (c.lookup-end.ensures.frame, c.lookup-end.ensures.links) c.if-hit.true
 
 pub returns : goal.returns
 returns c = counted_miss sizes _ _ _ _ _ c.if-hit.false
