@@ -22,6 +22,7 @@ def plain(name):
     t = re.sub(r"-law$", "", t)
     t = re.sub(r"^overflow-", "", t)
     t = re.sub(r"^bounds-", "", t)
+    t = re.sub(r"^slice-bounds-", "part-", t)
     return t
 
 
@@ -101,8 +102,9 @@ class Fun:
                 if k < len(self.params):
                     fields[1] = self.params[k]
             return ".".join(["c"] + fields)
-        at = self.up(place, n)
-        seen = at
+        return self.from_(self.up(place, n), fields) or self.from_(place, fields)
+
+    def from_(self, seen, fields):
         while seen:
             p = self.places[seen]
             old, new = p[2]

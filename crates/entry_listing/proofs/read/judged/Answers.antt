@@ -22,5 +22,6 @@ returns-then-number-ne0 c =
 pub returns : goal.returns
 returns c =
     let long : length c.args.slots ≡ slot_count sizes = search (rules, length_unmap) in
+    let e = c.examine-pages.ensures in
     judged_accepted sizes readable.some_place _ long _ _ _ c.live_flags-flags.ensures c.examine-pages.ensures.fit c.refusal-number.ensures
-    _ _ c.empty_place.ensures (λ t. found_counts sizes _ _ _ _ _ _ c.examine-pages.ensures (is_true _ t)) c.if-number-ne0.false
+    _ _ c.empty_place.ensures (λ t. found_counts sizes _ _ _ _ _ _ (e.fit, (e.rights, (e.frames, e.counts))) (is_true _ t)) c.if-number-ne0.false

@@ -22,6 +22,11 @@ overflow_add-end c =
     let h : c.line_end-end.result ≤ length c.args.text.now = line_within _ _ _ c.line_end-end.ensures (search rules) in
     search rules
 
+pub slice_bounds-held_fields-end : goal.slice_bounds-held_fields-end
+slice_bounds-held_fields-end c =
+    let h : c.line_end-end.result ≤ length c.args.text.now = line_within _ _ _ c.line_end-end.ensures (search rules) in
+    search rules
+
 pub returns-then-text-end : goal.returns-then-text-end
 returns-then-text-end c =
     c.judged.ensures

@@ -20,21 +20,21 @@ returns-then-not-ended c = c.refused.ensures ∙ not_ended sizes _ (sym c.ended.
 pub slice_bounds-live_fields-end : goal.slice_bounds-live_fields-end
 slice_bounds-live_fields-end c =
     let text = c.args.text.now in
-    let h : c.before.line-end.result ≤ length text = line_within _ 0 _ c.before.line-end.ensures (omega arith) in
-    sym (length-take-le {A = ℕ} c.before.line-end.result text h)
+    let h : c.line_end-end.result ≤ length text = line_within _ 0 _ c.line_end-end.ensures (omega arith) in
+    sym (length-take-le {A = ℕ} c.line_end-end.result text h)
 
 pub returns-then-not-one_fits : goal.returns-then-not-one_fits
 returns-then-not-one_fits c =
     let first = c.live_fields-first in
     let most = ap (λ (m : ℕ). first.result.ok && leb first.result.first m) c.live_number.ensures in
     c.refused-then-not-one_fits.ensures
-    ∙ first_bad sizes _ (sym c.before.before.before.before.before.before.before.before.ended.ensures ∙ not-false _ c.before.before.before.before.before.before.before.if1.false) c.before.before.before.before.before.before.line-end.ensures
+    ∙ first_bad sizes _ (sym c.ended.ensures ∙ c.if-not-ended.false) c.line_end-end.ensures
     first.ensures
     (sym (c.one_fits.ensures ∙ most) ∙ c.if-not-one_fits.true)
 
 pub overflow_add-end : goal.overflow_add-end
 overflow_add-end c =
-    let h : c.before.before.before.before.before.line-end.result ≤ length c.args.text.now = line_within _ 0 _ c.before.before.before.before.before.line-end.ensures (omega arith) in
+    let h : c.line_end-end.result ≤ length c.args.text.now = line_within _ 0 _ c.line_end-end.ensures (omega arith) in
     search rules
 
 pub returns : goal.returns
@@ -42,6 +42,6 @@ returns c =
     let first = c.live_fields-first in
     let most = ap (λ (m : ℕ). first.result.ok && leb first.result.first m) c.live_number.ensures in
     c.read_from.ensures
-    ∙ first_read sizes _ (sym c.before.before.before.before.before.before.before.before.ended.ensures ∙ not-false _ c.before.before.before.before.before.before.before.if1.false) c.before.before.before.before.before.before.line-end.ensures
+    ∙ first_read sizes _ (sym c.ended.ensures ∙ c.if-not-ended.false) c.line_end-end.ensures
     first.ensures
     (sym (c.one_fits.ensures ∙ most) ∙ c.if-not-one_fits.false)
