@@ -4,7 +4,7 @@
 - a public function has no `requires`, and is under 40 lines with its contract;
 - a definition file, a proof file and a source file begin with a comment that says what they are for;
 - no size of a model stands as a bare number, outside the size files and what NO_SIZES lists;
-- a must-fail edit has its control beside it (tools/controls.py), or says why there is none; and docs/PROOF.md names it.
+- a must-fail edit has its control in controls/ (tools/controls.py), or says why there is none; and docs/PROOF.md names it.
 """
 import fnmatch
 import glob
@@ -85,7 +85,7 @@ for path in sorted(glob.glob('crates/**/*.*', recursive=True)):
 
 named = set(re.findall(r'\w+', open('docs/PROOF.md').read()))
 for path in sorted(glob.glob('crates/*/must-fail/*.edit')):
-    if not glob.glob(path[:-len('.edit')] + '.control') and not re.search(r'(?m)^# no control: ', open(path).read()):
+    if not glob.glob(path.replace('/must-fail/', '/controls/')[:-len('.edit')] + '.control') and not re.search(r'(?m)^# no control: ', open(path).read()):
         breach(path, 1, 'an edit with neither a control nor a reason why there is none')
     if re.search(r'(\w+)\.edit$', path)[1] not in named:
         breach(path, 1, 'an edit that docs/PROOF.md does not name')
