@@ -22,6 +22,7 @@ def plain(name):
     t = re.sub(r"-law$", "", t)
     t = re.sub(r"^overflow-", "", t)
     t = re.sub(r"^bounds-", "", t)
+    t = re.sub(r"^slice-bounds-", "part-", t)
     return t
 
 
@@ -101,8 +102,9 @@ class Fun:
                 if k < len(self.params):
                     fields[1] = self.params[k]
             return ".".join(["c"] + fields)
-        at = self.up(place, n)
-        seen = at
+        return self.from_(self.up(place, n), fields) or self.from_(place, fields)
+
+    def from_(self, seen, fields):
         while seen:
             p = self.places[seen]
             old, new = p[2]
@@ -115,7 +117,7 @@ class Fun:
                             return ".".join(["c", arm[0], name] + rest[len(parts):])
                     return ".".join(["c", arm[0]] + rest)
                 if p[3] and rest and rest[0] == "ensures":
-                    rest = ["ensures"] + by_label(rest[1:], LABELS.get(p[3].split("::")[-1], []))
+                    rest = ["ensures"] + by_label(rest[1:], LABELS.get(p[3].split("::")[0] + "::" + p[3].split("::")[-1], []))
                 return ".".join(["c", new] + rest)
             seen = p[1]
         return None
@@ -130,6 +132,7 @@ class Fun:
                 return m.group(0)
             return got
         body = re.sub(rf"(?<![\w.'-])c((?:\.before)*)((?:\.{NAME})+)", one, body)
+        body = re.sub(r"(call_unsound .*?) (c\.if-not-sound\.true)", r"\1 (ap not \2)", body)
         # a test of `!x` tells of x today
         body = re.sub(rf"(?<![\w.'-])not-(?:true|false) _ (c\.if-not-{NAME}\.(?:true|false))", r"\1", body)
         return re.sub(rf"(?<![\w.'-])not-(?:true|false) _ \((c\.if-not-{NAME}\.(?:true|false))\)", r"\1", body)
@@ -138,10 +141,10 @@ class Fun:
 def unlet(body):
     """A step that has a name of its own, as in `let at = c.before.before in`, is written out."""
     while True:
-        m = re.search(rf"let ({NAME})(?: : [^=]*)? = (\(?c(?:\.before)*(?:\.args)?\)?) in\s*", body)
+        m = re.search(rf"let ({NAME}) = (\(?c(?:\.before)*(?:\.args)?\)?) in\s*", body)
         if not m:
             return body
-        body = body[:m.start()] + re.sub(rf"(?<![\w.'-]){re.escape(m.group(1))}(?![\w'-])", m.group(2).strip("()"), body[m.end():])
+        body = body[:m.start()] + re.sub(rf"(?<!let )(?<![\w.'-]){re.escape(m.group(1))}(?![\w'-])", m.group(2).strip("()"), body[m.end():])
 
 
 def pair_path(k, n):
@@ -213,7 +216,7 @@ def labels_of():
             if n.endswith(".rt"):
                 t = open(os.path.join(folder, n)).read()
                 for m in re.finditer(r"(?s)\bfn (\w+)\b(.*?)\n\s*\{\n", t):
-                    out.setdefault(m.group(1), re.findall(r"(?m)^\s+ensures (\w+) \{", m.group(2)))
+                    out.setdefault(folder.split("/")[1] + "::" + m.group(1), re.findall(r"(?m)^\s+ensures (\w+) \{", m.group(2)))
     return out
 
 
@@ -373,9 +376,9 @@ def main():
                     continue
                 kept += 1
                 text = re.sub(rf"(?m)^{re.escape(name)}( c)( κs)?( =)", rf"{new} c\3", text)
-                text = fun.turned(inlined(unlet(text), helpers), place, said)
+                text = fun.turned(unlet(inlined(unlet(text), helpers)), place, said)
                 if m.group(1).startswith("returns"):
-                    text = as_record(text, LABELS.get(rel.split("/")[-1], []))
+                    text = as_record(text, LABELS.get(crate + "::" + rel.split("/")[-1], []))
                 out_.append(f"pub {new} : goal.{new}\n{text}\n")
             else:
                 text2 = fun.turned(text, fun.f["places"][0][0], said) if "tie." not in kind else text

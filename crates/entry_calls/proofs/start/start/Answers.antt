@@ -1,0 +1,12 @@
+-- `start` meets its contract: slots, live spaces and places are those of the start board.
+use Rattle.entry_calls.proofs as own
+use mathlib.Core.Path.{refl}
+use Rattle.lend.specs.Lists.{tabulate_from}
+use Rattle.lend_code.proofs.Sets.{start_made}
+use Rattle.entry.specs.Sizes.{sizes}
+use borrow.Author.Rules.{rules}
+use own.start.start.Goals as goal
+
+pub returns : goal.returns
+unfolding tabulate_from
+returns c = start_made sizes _ _ _ _ c.start_slots-slots.ensures refl c.empty_place.ensures c.no_count.ensures

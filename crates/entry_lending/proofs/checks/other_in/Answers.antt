@@ -1,0 +1,18 @@
+use Rattle.entry_lending.proofs as own
+use Prim.Native.Nat.{◌-◌}
+use native.Mathlib.Omega.{arith}
+use borrow.Author.Rules.{rules}
+use lib.Dec.{lit<}
+use Rattle.lend_code.proofs.Climbs.{Failed, failed_none, failed_more}
+use Rattle.lend_code.proofs.OneSpace.{other_at, no_such_space, one_there, none_there}
+use Rattle.entry.specs.Sizes.{sizes}
+use own.checks.other_in.Goals as goal
+
+pub returns-then-space-ge-SPACES : goal.returns-then-space-ge-SPACES
+returns-then-space-ge-SPACES c = no_such_space sizes _ _ _ (lit< tt) c.if-space-ge-SPACES.true
+
+pub returns-then-set-k : goal.returns-then-set-k
+returns-then-set-k c = one_there sizes _ _ _ c.if-space-ge-SPACES.false _ c.loop-page-test.true c.if-set-k.true
+
+pub returns : goal.returns
+returns c = none_there sizes _ _ _ (lit< tt) c.if-space-ge-SPACES.false _ c.loop-page.invariant c.loop-page-test.false
