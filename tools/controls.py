@@ -3,10 +3,9 @@
 
 For crates/NAME/must-fail/X.edit there is crates/NAME/controls/X.control, an edit of the same place and the same shape whose meaning is
 the code's own (must-fail/ has edits alone, since rt takes any other file there for a bad edit); or X.edit has a line '# no control:
-REASON'. In a scratch copy of the repository, out/ of each crate with it, the crate has to be proved with the control and refused with the
-edit; of the refusal the first error is printed, which must be about the fact that the edit makes false. Each copy keeps what `rt check`
-proved before, so that a try takes seconds; two copies work at a time. The gate's own verdict on the
-edits is that of `rt must-fail`. The last line is 'N controls proved, M edits refused, K without a control, F failed'; the exit status
+REASON'. In a scratch copy of the repository the crate has to be proved with the control and refused with the edit; of the refusal the
+first error is printed, which must be about the fact that the edit makes false. A copy begins with what `rt check` kept of the same
+crates, so that a try takes seconds; two copies work at a time. The gate's own verdict on the edits is that of `rt must-fail`. The last line is 'N controls proved, M edits refused, K without a control, F failed'; the exit status
 is 1 where something failed.
 """
 import concurrent.futures
@@ -28,10 +27,11 @@ def beside(edit):
 
 
 def scratch(top):
-    """A copy of the crates and of what is proved of them, which times of files say."""
-    for part in ['crates', 'crates.txt', 'HANDLES']:
-        if os.path.exists(part):
-            subprocess.run(['cp', '-a', part, top], check=True)
+    """A copy of the crates: rt takes what is proved of them from where it was proved."""
+    shutil.copytree('crates', f'{top}/crates', symlinks=True, ignore=shutil.ignore_patterns('out'))
+    for name in ['crates.txt', 'HANDLES']:
+        if os.path.exists(name):
+            shutil.copy(name, top)
 
 
 def edited(crate, path):
