@@ -1,0 +1,12 @@
+-- `line_turn` meets its contract: a comment, and any other line.
+use Rattle.entry_script.proofs as own
+use Rattle.script.proofs.Turns.{turn_comment, turn_request}
+use Rattle.entry.specs.Sizes.{sizes}
+use borrow.Author.Rules.{rules}
+use own.judge.line_turn.Goals as goal
+
+pub returns-then-is_comment : goal.returns-then-is_comment
+returns-then-is_comment c = turn_comment sizes _ _ c.is_comment.ensures c.if-is_comment.true
+
+pub returns : goal.returns
+returns c = turn_request sizes _ _ c.is_comment.ensures c.if-is_comment.false c.parse-request.ensures c.judge.ensures

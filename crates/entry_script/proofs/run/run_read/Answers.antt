@@ -1,0 +1,12 @@
+-- `run_read` meets its contract: a board that was read, and a refusal.
+use Rattle.entry_script.proofs as own
+use Rattle.script.proofs.Parts.{by_board, by_refusal}
+use Rattle.entry.specs.Sizes.{sizes}
+use borrow.Author.Rules.{rules}
+use own.run.run_read.Goals as goal
+
+pub returns-then-read-eq0 : goal.returns-then-read-eq0
+returns-then-read-eq0 c = by_board sizes _ _ c.if-read-eq0.true c.run_first.ensures
+
+pub returns : goal.returns
+returns c = by_refusal sizes _ _ c.if-read-eq0.false c.put_refused.ensures

@@ -1,0 +1,13 @@
+-- `lend_entry_grant` meets its contract: the call on the board that was read.
+use Rattle.lend_entry.proofs as own
+use Rattle.entry.specs.Sizes.{sizes}
+use Rattle.image.proofs.Answered.{answered_on}
+use mathlib.Core.Path.{refl}
+use Rattle.lend.specs.Calls.{Grant}
+use Rattle.entry_calls.specs.Answer.{outcome}
+use borrow.Author.Rules.{rules}
+use own.lending.lend_entry_grant.Goals as goal
+
+pub returns : goal.returns
+returns c =
+    answered_on sizes (Grant c.args.from c.args.page c.args.to c.args.at c.args.rights) _ _ _ (outcome c.grant-answer.result) c.read_image.ensures c.grant-answer.ensures _ _ _ _ _ _ _ c.finish.ensures refl refl

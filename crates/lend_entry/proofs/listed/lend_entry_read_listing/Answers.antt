@@ -1,0 +1,12 @@
+-- `lend_entry_read_listing` meets its contract.
+use Rattle.lend_entry.proofs as own
+use Rattle.listing_image.proofs.Listed.{other_length, read_over}
+use Rattle.entry.specs.Sizes.{sizes}
+use borrow.Author.Rules.{rules}
+use own.listed.lend_entry_read_listing.Goals as goal
+
+pub returns-then-image-ne-IMAGE : goal.returns-then-image-ne-IMAGE
+returns-then-image-ne-IMAGE c = other_length sizes _ _ c.if-image-ne-IMAGE.true
+
+pub returns : goal.returns
+returns c = read_over sizes _ _ (search rules) c.read_listing-answer.ensures c.write_image.ensures

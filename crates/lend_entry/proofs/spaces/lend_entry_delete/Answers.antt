@@ -1,0 +1,13 @@
+-- `lend_entry_delete` meets its contract: the call on the board that was read.
+use Rattle.lend_entry.proofs as own
+use Rattle.entry.specs.Sizes.{sizes}
+use mathlib.Core.Path.{refl}
+use Rattle.lend.specs.Calls.{Delete}
+use Rattle.entry_calls.specs.Answer.{outcome}
+use Rattle.image.proofs.Answered.{answered_on}
+use borrow.Author.Rules.{rules}
+use own.spaces.lend_entry_delete.Goals as goal
+
+pub returns : goal.returns
+returns c =
+    answered_on sizes (Delete c.args.space) _ _ _ (outcome c.delete-answer.result) c.read_image.ensures c.delete-answer.ensures _ _ _ _ _ _ _ c.finish.ensures refl refl
