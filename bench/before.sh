@@ -1,10 +1,11 @@
 #!/bin/bash
 # before.sh REV [--seconds S] [--turns N]: what calls cost at commit REV and now, first translate alone in one program (bench/before.c),
 # then every row of the bench, each commit's library beside its own plain Rust (bench/before.py): S seconds a row, N turns.
-# Builds the libraries of REV in a clone below build/; the first time that proves them. The two may have images of different lengths.
+# Builds the libraries of REV in a clone beside the checkout, since rt ci refuses another repository inside it; the first time that proves
+# them, so REV has to be a commit that the installed kit proves. The two may have images of different lengths.
 set -eu -o pipefail
 cd "$(dirname "$(readlink -f "$0")")/.."
-top=$PWD old=$PWD/build/before rev=$(git rev-parse "$1")
+top=$PWD old=$PWD.before rev=$(git rev-parse "$1")
 shift
 [ -d "$old" ] || git clone -q . "$old"
 git -C "$old" fetch -q "$top" "$rev"

@@ -6,47 +6,38 @@ set -eu
 name=$1
 out=$PWD/build/native
 object=$out/$name.o
-if [ -f "$object" ] && [ -z "$(find crates crates.txt bench/native.sh -newer "$object" -print -quit)" ]; then exit 0; fi
+if [ -f "$object" ] && [ -z "$(find crates crates.txt bench/native.sh -name out -prune -o -type f -newer "$object" -print -quit)" ]; then exit 0; fi
 kit=$(dirname "$(dirname "$(readlink -f "$(command -v rt)")")")
-own=on/$(uname -m)
-clang=$kit/$own/toolchain/bin/clang
+clang=$kit/toolchain/bin/clang
 work=$(mktemp -d)
 trap 'rm -rf "$work"' EXIT
-chmod 711 "$work" # rt runs a program as nobody, who has to reach the kit
 mkdir -p "$out"
 
-# A folder that is the kit by links, save for one file: its clang keeps the module and then is the kit's clang.
-mkdir -p "$work/kit/$own/toolchain/bin"
-for part in "$kit"/*; do
-    if [ "$part" != "$kit/on" ]; then ln -s "$part" "$work/kit/"; fi
+# A folder that is the kit by links, save for three files: a copy of rt, which looks for the kit where it stands itself; and its clang
+# keeps the module and then is the kit's clang.
+mkdir -p "$work/kit/bin" "$work/kit/toolchain/bin"
+cp "$kit/bin/rt" "$kit/bin/rtlib.py" "$work/kit/bin/"
+for part in "$kit"/* "$kit/bin"/* "$kit/toolchain"/* "$kit/toolchain/bin"/*; do
+    place=$work/kit/${part#"$kit/"}
+    if [ "$part" != "$clang" ] && [ ! -e "$place" ]; then ln -s "$part" "$place"; fi
 done
-for part in "$kit/$own"/*; do
-    if [ "$part" != "$kit/$own/toolchain" ]; then ln -s "$part" "$work/kit/$own/"; fi
-done
-for part in "$kit/$own/toolchain"/* "$kit/$own/toolchain/bin"/*; do
-    case $part in
-    "$clang" | */toolchain/bin) ;;
-    */toolchain/bin/*) ln -s "$part" "$work/kit/$own/toolchain/bin/" ;;
-    *) ln -s "$part" "$work/kit/$own/toolchain/" ;;
-    esac
-done
-cat >"$work/kit/$own/toolchain/bin/clang" <<END
+cat >"$work/kit/toolchain/bin/clang" <<END
 #!/bin/sh
 for word in "\$@"; do
     case \$word in *.bc | *.ll) cp "\$word" "$work/module" ;; esac
 done
 exec "$clang" "\$@"
 END
-chmod +x "$work/kit/$own/toolchain/bin/clang"
+chmod +x "$work/kit/toolchain/bin/clang"
 
-# A program is compiled when it is proved, so its stamp goes first; a library when its archive is asked for.
+# A program is compiled when it is run, unless its stamp says that it has been; a library when its archive is asked for.
 if [ -f "crates/$name/src/main.rt" ]; then
-    rm -f "target/stamp/$name"
-    task=check
+    rm -f "crates/$name/out/$name.stamp"
+    task=run
 else
-    task=staticlib
+    task=lib
 fi
-if ! RATTLE_HOME=$work/kit rt "$task" "$name" >"$out/$name.log" 2>&1 || [ ! -f "$work/module" ]; then
+if ! (cd "crates/$name" && "$work/kit/bin/rt" "$task") >"$out/$name.log" 2>&1 </dev/null || [ ! -f "$work/module" ]; then
     tail -n 20 "$out/$name.log" >&2
     echo "native.sh: the kit handed no module of $name to its clang" >&2
     exit 2

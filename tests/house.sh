@@ -11,7 +11,7 @@ tried=0
 copy() {
     rm -rf "$work/text"
     mkdir "$work/text"
-    cp -r crates docs tools "$work/text"
+    tar -c --exclude=out crates docs tools | tar -x -C "$work/text"
 }
 
 # A fresh copy with one function more in this file, in front of the others.
@@ -46,8 +46,8 @@ taken
 # ---- rules.py: a public function takes every input
 with text/src/number.rt <<'F'
 pub fn hollow(buffer: &mut [u8], x: u8) -> u8
-    requires small { ⌜ x < 3 ⌝ }
-    ensures { λ r. ⌜ r ≡ r ⌝ }
+    requires small { x < 3 }
+    ensures { result ≡ result }
 {
     x
 }
@@ -56,9 +56,9 @@ refused rules.py "number.rt:2: a public function with a requires"
 refused contracts.py "text::number::hollow has a contract of a form that is not known"
 
 with lend_entry/src/board.rt <<'F'
-#[no_mangle] pub extern "C" fn hollow(x: u8) -> u8
-    ensures { λ r. ⌜ r ≡ lessOf x x ⌝ }
-    requires small { ⌜ x < 3 ⌝ }
+#[unsafe(no_mangle)] pub extern "C" fn hollow(x: u8) -> u8
+    ensures { result ≡ less_of x x }
+    requires small { x < 3 }
 {
     x
 }
@@ -67,7 +67,7 @@ refused rules.py "board.rt:2: a public function with a requires"
 
 with text/src/number.rt <<'F'
 pub(crate) fn inner(x: u8) -> u8
-    requires small { ⌜ x < 3 ⌝ }
+    requires small { x < 3 }
 {
     x
 }
@@ -88,7 +88,7 @@ refused rules.py "Inner.antt:3: a size as a bare number"
 
 # ---- rules.py: wrong programs
 copy
-rm "$work/text/crates/entry/must-fail/every_call_refused.control"
+rm "$work/text/crates/entry/controls/every_call_refused.control"
 refused rules.py "every_call_refused.edit:1: an edit with neither a control nor a reason why there is none"
 
 copy
@@ -105,7 +105,7 @@ refused contracts.py "entry::sets::hollow has no contract"
 
 with entry/src/sets.rt <<'F'
 pub fn hollow(x: u8) -> u8
-    ensures { λ r. ⌜ r ≡ r ⌝ }
+    ensures { result ≡ result }
 {
     x
 }
@@ -114,7 +114,7 @@ refused contracts.py "entry::sets::hollow has a contract of a form that is not k
 
 with entry/src/sets.rt <<'F'
 pub fn hollow(x: u8) -> u8
-    ensures { λ r. ⌜ r ≡ x ⊎ Any r ⌝ }
+    ensures { result ≡ x ⊎ Any result }
 {
     x
 }
@@ -123,7 +123,7 @@ refused contracts.py "entry::sets::hollow has a contract of a form that is not k
 
 with entry/src/sets.rt <<'F'
 pub fn hollow(buffer: &mut [u8])
-    ensures { λ _. ⌜ now (buffer .exit) ≡ now (buffer .exit) ⌝ }
+    ensures { buffer.new ≡ buffer.new }
 {
 }
 F
@@ -132,8 +132,8 @@ refused contracts.py "entry::sets::hollow has a contract of a form that is not k
 # ---- contracts.py: what has to be determined
 with entry/src/sets.rt <<'F'
 pub fn hollow(buffer: &mut [u8], out: &mut [u32; 4], x: u8) -> u8
-    ensures { λ r. ⌜ r ≡ lessOf x x ⌝ }
-    ensures { λ _. ⌜ now (out .exit) ≡ fourOf x x ⌝ }
+    ensures { result ≡ less_of x x }
+    ensures { out.new ≡ four_of x x }
 {
     x
 }
@@ -142,7 +142,7 @@ refused contracts.py "entry::sets::hollow does not determine what it leaves in b
 
 with entry/src/sets.rt <<'F'
 pub fn hollow(buffer: &mut [u8]) -> u8
-    ensures { λ _. ⌜ now (buffer .exit) ≡ now (buffer .entry) ⌝ }
+    ensures { buffer.new ≡ buffer.old }
 {
     0
 }
@@ -151,8 +151,8 @@ refused contracts.py "entry::sets::hollow does not determine its result"
 
 with entry/src/sets.rt <<'F'
 pub fn whole(buffer: &mut [u8], x: u8) -> u8
-    ensures { λ r. ⌜ r ≡ lessOf x x ⌝ }
-    ensures { λ _. ⌜ now (buffer .exit) ≡ now (buffer .entry) ⌝ }
+    ensures { result ≡ less_of x x }
+    ensures { buffer.new ≡ buffer.old }
 {
     0
 }
@@ -165,20 +165,20 @@ refused contracts.py "entry::lookup::lookup does not determine the field steps o
 
 # ---- contracts.py: the theorem of a view
 copy
-sed -i 's/\bone-answer\b/one-reply/' "$work/text/crates/entry_demands/proofs/Unique.antt"
-refused contracts.py "wants a theorem one-answer in entry_demands, Unique: one result by outcome"
+sed -i 's/\bone_answer\b/one_reply/' "$work/text/crates/entry_demands/proofs/Unique.antt"
+refused contracts.py "wants a theorem one_answer in entry_demands, Unique: one result by outcome"
 
 copy
-sed -i '/^pub one-look :/s/seen //g' "$work/text/crates/entry_demands/proofs/Unique.antt"
-refused contracts.py "wants a theorem one-look in entry_demands, Unique: one result by seen"
+sed -i '/^pub one_look :/s/seen //g' "$work/text/crates/entry_demands/proofs/Unique.antt"
+refused contracts.py "wants a theorem one_look in entry_demands, Unique: one result by seen"
 
 copy
-sed -i '/^pub one-store :/s/ × (m ≡ n)$//' "$work/text/crates/entry_demands/proofs/Unique.antt"
-refused contracts.py "wants a theorem one-store in entry_demands, Unique: one result by stored"
+sed -i '/^pub one_store :/s/ × (m ≡ n)$//' "$work/text/crates/entry_demands/proofs/Unique.antt"
+refused contracts.py "wants a theorem one_store in entry_demands, Unique: one result by stored"
 
 copy
 sed -i 's/\.{tables}/.{nothing as tables}/' "$work/text/crates/entry_calls/src/start.rt"
-refused contracts.py "entry_calls::start::start has another tables than the theorem one-board"
+refused contracts.py "entry_calls::start::start has another tables than the theorem one_board"
 
 # ---- contracts.py: the page
 copy
@@ -186,7 +186,7 @@ sed -i '/entry_calls::flush::flush/d' "$work/text/docs/CONTRACTS.md"
 refused contracts.py "docs/CONTRACTS.md is not what tools/contracts.py makes" --check
 
 # ---- ./test: a step that tried nothing
-eval "$(sed -n '/^count() {/,/^}/p; /^counted() {/,/^}/p' test)"
+eval "$(sed -n '/^count() {/,/^}/p; /^counted() {/,/^}/p; /^merge_gate() {/,/^}/p' test)"
 passed=0 failed=0
 counted "all is well" . echo "3 passed, 0 failed" >"$work/said"
 counted "nothing is tried" . echo "0 passed, 0 failed" >>"$work/said"
@@ -196,4 +196,22 @@ if [ "$passed $failed" != "3 1" ]; then
     exit 1
 fi
 
-echo "$((tried + 1)) passed, 0 failed"
+# ---- ./test: what rt ci says of a must-fail edit that it could not try
+rt() {
+    printf '%s\n' "$said" "3 passed, 0 failed"
+}
+passed=0 failed=0
+said="rt: ok; handles allowed: none; must-fail edits: 2 refused; done in this run: 1 of the 1 proofs"
+counted "all edits are refused" . merge_gate >"$work/said"
+said="rt: ok; handles allowed: none; must-fail edits: 2 refused, 1 bad; done in this run: 1 of the 1 proofs"
+counted "an edit is bad" . merge_gate >>"$work/said"
+said="rt: a and the crates below passed"
+counted "it is not the gate" . merge_gate >>"$work/said"
+unset -f rt
+if [ "$passed $failed" != "3 2" ]; then
+    echo "./test took a bad must-fail edit"
+    cat "$work/said"
+    exit 1
+fi
+
+echo "$((tried + 2)) passed, 0 failed"

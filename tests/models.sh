@@ -9,7 +9,7 @@ trap 'rm -rf "$work"' EXIT
 copy() {
     rm -rf "$work/text"
     mkdir "$work/text"
-    cp -r crates crates.txt include tools "$work/text"
+    tar -c --exclude=out crates crates.txt include tools | tar -x -C "$work/text"
 }
 
 # The copy, as it was left, has to be refused.

@@ -1,12 +1,12 @@
 #!/bin/bash
 # cc.sh OUT [-DNAME..] FILE..: compiles C files for x86-64, the processor that the kit compiles for, and links them with the archives
-# that are named, by the kit's own compiler, linker and C library; tools/run.sh runs the program on any machine that the kit runs on.
+# that are named, by the kit's own compiler, linker and C library; tools/run.sh runs the program with that library.
 # A -D option stands before the C files that it is for.
 set -eu
 out=$1
 shift
 kit=$(dirname "$(dirname "$(readlink -f "$(command -v rt)")")")
-tools=$kit/on/$(uname -m)/toolchain
+tools=$kit/toolchain
 headers=(-isystem "$(gcc -print-file-name=include)" -isystem "/usr/include/$(gcc -dumpmachine)" -isystem /usr/include)
 work=$(mktemp -d)
 trap 'rm -rf "$work"' EXIT

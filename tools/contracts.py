@@ -18,40 +18,45 @@ import sys
 import heads
 import models
 
-# in a view: r is the result, exit what a parameter lent for writing holds at exit, entry what one lent for reading holds
+# in a view: r is the result, exit what a parameter lent for writing holds when the call ends (`x.new`), entry what one held when it began
+# (`x.old`, and `x.now` of one lent for reading)
 MODEL = 'entry_demands', 'Unique'
 VIEWS = {
-    'tables': ('r', *MODEL, 'one-board'),
-    'outcome': ('r', *MODEL, 'one-answer'),
-    'rangeOutcome': ('r', *MODEL, 'one-range-answer'),
-    'rangeMeant': ('r', *MODEL, 'one-range'),
-    'translated': ('r', *MODEL, 'one-translation'),
-    'seen': ('r', *MODEL, 'one-look'),
-    'loaded': ('r entry', *MODEL, 'one-load'),
-    'stored': ('r exit', *MODEL, 'one-store'),
-    'answer': ('r', 'entry_listing', 'Unique', 'one-read'),
-    'filled': ('r exit', 'entry_listing', 'Unique', 'one-written'),
-    'listed': ('r exit exit', 'listing_image', 'Listed', 'one-listed'),
+    'tables': ('r', *MODEL, 'one_board'),
+    'outcome': ('r', *MODEL, 'one_answer'),
+    'range_outcome': ('r', *MODEL, 'one_range_answer'),
+    'range_meant': ('r', *MODEL, 'one_range'),
+    'translated': ('r', *MODEL, 'one_translation'),
+    'seen': ('r', *MODEL, 'one_look'),
+    'loaded': ('r entry', *MODEL, 'one_load'),
+    'stored': ('r exit', *MODEL, 'one_store'),
+    'answer': ('r', 'entry_listing', 'Unique', 'one_read'),
+    'filled': ('r exit', 'entry_listing', 'Unique', 'one_written'),
+    'listed': ('r exit exit', 'listing_image', 'Listed', 'one_listed'),
     # the memory of a call that has none is the empty list; the image of a call that only reads it is lent for reading
-    'left': ('r (entry|exit) (entry|exit|none) exit', *MODEL, 'one-left'),
+    'left': ('r (entry|exit) (entry|exit|none) exit', *MODEL, 'one_left'),
     # what was lent to a function that hands nothing back
-    '≡': ('exit', *MODEL, 'one-bytes'),
+    '≡': ('exit', *MODEL, 'one_bytes'),
 }
 # structs whose fields are given one by one
 FIELDS = {
-    'Lookup': ('r', *MODEL, 'one-lookup'),
-    'Tallied': ('r', *MODEL, 'one-tally'),
-    'Pages': ('r', *MODEL, 'one-examined'),
-    'Checked': ('r', *MODEL, 'one-checked'),
+    'Lookup': ('r', *MODEL, 'one_lookup'),
+    'Tallied': ('r', *MODEL, 'one_tally'),
+    'Pages': ('r', *MODEL, 'one_examined'),
+    'Checked': ('r', *MODEL, 'one_checked'),
 }
 # contracts that are records: what their last arguments are; those before them are the definition's
 RECORDS = {
-    'Tells': ('r', *MODEL, 'one-told'),
-    'Wrote': ('exit r', 'text', 'Writing', 'wrote-once'),
-    'Ran': ('exit r', 'script', 'Runs', 'ran-once'),
-    'RanFrom': ('exit r', 'script', 'Runs', 'from-once'),
+    'Tells': ('r', *MODEL, 'one_told'),
+    'Wrote': ('exit r', 'text', 'Writing', 'wrote_once'),
+    'Ran': ('exit r', 'script', 'Runs', 'ran_once'),
+    'RanFrom': ('exit r', 'script', 'Runs', 'from_once'),
 }
 ITSELF, BYTES = 'the equation itself', '≡'
+# the words of a clause
+RESULT, WHEN = 'result', {'now': 'entry', 'old': 'entry', 'new': 'exit'}
+# where the equation that a contract is said by comes from
+EQUATION = 'Rattle.std.specs.Prelude'
 
 errors = []
 
@@ -68,12 +73,12 @@ def parts(text, between=' '):
     return found
 
 
-def kind(part, result):
+def kind(part):
     """What a part is in a view (r, entry, exit, none, or ? for anything else), and the parameter that it speaks of."""
-    if part in (result, '[]'):
-        return ('r' if part == result else 'none'), None
-    m = re.fullmatch(r'\(now \(«?(\w+)»? \.(entry|exit)\)\)', part)
-    return (m[2], m[1]) if m else ('?', None)
+    if part in (RESULT, '[]'):
+        return ('r' if part == RESULT else 'none'), None
+    m = re.fullmatch(r'«?(\w+)»?\.(now|old|new)', part)
+    return (WHEN[m[2]], m[1]) if m else ('?', None)
 
 
 def shown(found, form):
@@ -83,51 +88,48 @@ def shown(found, form):
     return {'r' if k == 'r' else name for k, name in found if k in ('r', 'exit')}
 
 
-def plain(term, result, lent):
+def plain(term, lent):
     """Whether a definition speaks of the arguments alone: a term with no relation in it, no result, nothing at exit."""
-    rest = re.sub(r'now \(«?\w+»? \.entry\)', '', term)
-    words = re.findall(r'[^\s()«»]+', rest)
-    return re.fullmatch(r'[\w\s()«»\[\].+*∷′-]*', rest) and not {result, '.exit', *lent} & set(words)
+    rest = re.sub(r'«?\b\w+»?\.(now|old)\b', '', term)
+    words = re.findall(r'\w+', rest)
+    return re.fullmatch(r"[\w\s()«»\[\].+*∷'-]*", rest) and not {RESULT, 'new', *lent} & set(words)
 
 
-def equation(head, result, left):
+def equation(head, left):
     """What the left side of an equation determines, and its view."""
-    found = [kind(part, result) for part in left]
+    found = [kind(part) for part in left]
     if found == [('r', None)]:
         return {'r'}, ITSELF
     if left[0] in VIEWS:
         return shown(found[1:], VIEWS[left[0]][0]), left[0]
-    if found[0][0] == 'r' and len(left) == 2 and head.result in FIELDS:
-        return {left[1]}, head.result
-    lent = kind(f'({" ".join(left)})', result)
-    return ({lent[1]} if lent[0] == 'exit' else None), BYTES
+    field = re.fullmatch(rf'{RESULT}(\.\w+)', ' '.join(left))
+    if field and head.result in FIELDS:
+        return {field[1]}, head.result
+    return ({found[0][1]} if len(left) == 1 and found[0][0] == 'exit' else None), BYTES
 
 
 def determined(head, clause, lent):
     """What one clause determines, the definition and the view; None where its form is not known."""
-    m = re.fullmatch(r'λ (\w+)\. ⌜ (.*) ⌝', clause)
-    if not m:
-        return None
-    result, fact = m[1], parts(m[2])
+    fact = parts(clause)
     if fact.count('≡') == 1:
         at = fact.index('≡')
-        what, view = equation(head, result, fact[:at])
+        what, view = equation(head, fact[:at])
         definition = ' '.join(fact[at + 1:])
     elif fact[0] in RECORDS:
         view = fact[0]
         own = len(fact) - len(RECORDS[view][0].split())
-        what = shown([kind(part, result) for part in fact[own:]], RECORDS[view][0])
+        what = shown([kind(part) for part in fact[own:]], RECORDS[view][0])
         definition = ' '.join(fact[:own])
     else:
         return None
-    return (what, definition, view) if what and plain(definition, result, lent) else None
+    return (what, definition, view) if what and plain(definition, lent) else None
 
 
 def origin(text, name):
     """The module that a file has a name from, or None; a name given by `as` has none."""
     for m in re.finditer(r'(?m)^\s*(?:ghost )?use ([^\s{]+)\.\{([^}]*)\}', text):
         if name in [word.strip() for word in m[2].split(',')]:
-            return re.sub(r'·specs\.specs\.', '.specs.', m[1])
+            return m[1]
     return None
 
 
@@ -135,13 +137,13 @@ def shows_one(statement, view, form):
     """Whether a theorem goes from the view, or a struct's fields, to an equation for each part of what comes back."""
     *before, after = statement.split(' → ')
     equations = [re.fullmatch(r'\(?(\S+) ≡ (\S+?)\)?', part) for part in after.split(' × ')]
-    return (view in re.findall(r'[\w-]+|≡', ' '.join(before)) and len(equations) == len([k for k in form.split() if k != 'entry'])
+    return (view in re.findall(r'\w+|≡', ' '.join(before)) and len(equations) == len([k for k in form.split() if k != 'entry'])
             and all(m and m[1] != m[2] for m in equations))
 
 
 def theorem(view, text):
     """The theorem of a view, as the page names it, and what is wrong: it has to stand there, over the view that the source has."""
-    if origin(text, '_≡_') != 'mathlib.Core.Path' and view not in RECORDS:
+    if origin(text, '◌≡◌') != EQUATION and view not in RECORDS:
         return '', ['has an equation of its own']
     if view == ITSELF:
         return ITSELF, []
@@ -220,7 +222,7 @@ def page():
         '',
         'Made by `tools/contracts.py`, and checked by `./test`. What comes back from a function is its result, and every byte that it was',
         'lent for writing. The contract sets it equal to a definition over the arguments: as it is, or in a view. By the theorem of the',
-        'last column two results that meet the contract are one. Where it says \'the equation itself\', the contract is `r ≡` the',
+        'last column two results that meet the contract are one. Where it says \'the equation itself\', the contract is `result ≡` the',
         'definition, and there is nothing to show. No public function has a `requires`, so this holds for every input.',
         '',
         'The premium crates are the entry crates\' text at the other sizes (`tools/models.py`), so each function of an entry crate here stands',

@@ -1,16 +1,17 @@
 #!/usr/bin/env python3
 """controls.py [CRATE | CRATE/EDIT ..]: tries each must-fail edit and its control, or those named. No part of the gate.
 
-Beside crates/NAME/must-fail/X.edit stands X.control, an edit of the same place and the same shape whose meaning is the code's own;
-or X.edit has a line '# no control: REASON'. In a scratch copy of the repository, target/ with it, the crate has to be proved with the
-control and refused with the edit; of the refusal the first error is printed, which must be about the fact that the edit makes false.
-Each copy keeps what `rt dev` proved before, so that a try takes seconds; two copies work at a time. The gate's own verdict on the
-edits is that of `rt must-fail`. The last line is 'N controls proved, M edits refused, K without a control, F failed'; the exit status
+For crates/NAME/must-fail/X.edit there is crates/NAME/controls/X.control, an edit of the same place and the same shape whose meaning is
+the code's own (must-fail/ has edits alone, since rt takes any other file there for a bad edit); or X.edit has a line '# no control:
+REASON'. In a scratch copy of the repository the crate has to be proved with the control and refused with the edit; of the refusal the
+first error is printed, which must be about the fact that the edit makes false. A copy begins with what `rt check` kept of the same
+crates, so that a try takes seconds; two copies work at a time. The gate's own verdict on the edits is that of `rt must-fail`. The last line is 'N controls proved, M edits refused, K without a control, F failed'; the exit status
 is 1 where something failed.
 """
 import concurrent.futures
 import glob
 import os
+import re
 import shutil
 import subprocess
 import sys
@@ -20,12 +21,17 @@ import tempfile
 CUT = 300
 
 
+def beside(edit):
+    """Where the control of an edit is."""
+    return edit.replace('/must-fail/', '/controls/').removesuffix('.edit') + '.control'
+
+
 def scratch(top):
-    """A copy of the crates and of what is proved of them."""
-    for part in ['crates', 'target']:
-        if os.path.isdir(part):
-            shutil.copytree(part, f'{top}/{part}', symlinks=True)
-    shutil.copy('crates.txt', top)
+    """A copy of the crates: rt takes what is proved of them from where it was proved."""
+    shutil.copytree('crates', f'{top}/crates', symlinks=True, ignore=shutil.ignore_patterns('out'))
+    for name in ['crates.txt', 'HANDLES']:
+        if os.path.exists(name):
+            shutil.copy(name, top)
 
 
 def edited(crate, path):
@@ -48,14 +54,14 @@ def tried(top, crate, texts):
     """Whether the copy of the crate is proved with these texts, and the first error where it is refused; then it is as it was."""
     for name, text in texts.items():
         open(f'{top}/{name}', 'w').write(text)
-    run = subprocess.run(['rt', 'dev', crate], cwd=top, stdout=subprocess.PIPE, stderr=subprocess.STDOUT, text=True)
+    run = subprocess.run(['rt', 'check'], cwd=f'{top}/crates/{crate}', stdout=subprocess.PIPE, stderr=subprocess.STDOUT, text=True)
     for name in texts:
         shutil.copy(name, f'{top}/{name}')
     lines = run.stdout.split('\n')
     if run.returncode == 0:
         return 'proved', ''
     # of a function that rattle proves by itself the word is a note
-    first = next((line for line in lines if ': error: ' in line or 'it is not proved' in line), lines[0]).replace(f'{top}/', '')
+    first = next((line for line in lines if re.search(r'\berror(\[[\w-]+\])?: ', line) or 'it is not proved' in line), lines[0]).replace(f'{top}/', '')
     return ('refused' if 'logic=not-proved' in lines else 'BROKEN'), f': {first[:CUT]}'
 
 
@@ -63,7 +69,7 @@ def of_crate(tops, crate, name):
     """How many controls of the crate (or the one of the edit named) are proved, edits refused, edits without a control, and failures."""
     top, counts = tops.pop(), [0, 0, 0, 0]
     for path in sorted(glob.glob(f'crates/{crate}/must-fail/{name or "*"}.edit')):
-        label, control = f'{crate}/{os.path.basename(path)[:-len(".edit")]}', path[:-len('edit')] + 'control'
+        label, control = f'{crate}/{os.path.basename(path)[:-len(".edit")]}', beside(path)
         if os.path.exists(control):
             came, error = tried(top, crate, edited(crate, control))
             counts[0 if came == 'proved' else 3] += 1

@@ -8,6 +8,7 @@ lines of crates.txt and the premium part of include/lend.h. Nobody edits what it
 --check writes nothing and fails where a file differs from what would be made, is missing, or was not made by it.
 --differences prints where the two models' texts differ beyond the name, line by line.
 """
+import contextlib
 import difflib
 import os
 import re
@@ -30,8 +31,8 @@ CRATES = {
     'board_script': 'board_script_premium',
     'board_script_from': 'board_script_from_premium',
 }
-# wrong programs are tried on the entry text, which is both models' text
-LEFT_OUT = ['must-fail']
+# wrong programs are tried on the entry text, which is both models' text, with their controls; rt makes out/
+LEFT_OUT = ['must-fail', 'controls', 'out']
 MARK = '# The premium model: made by tools/models.py from the lines of the entry crates.\n'
 # where the entry part of include/lend.h begins, then the premium part, then the end of both
 HEADER = ('/* ---- the entry model -', '/* ---- the premium model: made from the entry part by tools/models.py -', '#ifdef __cplusplus\n}')
@@ -41,8 +42,9 @@ def renamed(text):
     """The text with the premium model's name where the entry model is meant; a cache has entries too, and those stay."""
     text = re.sub(r'\b(lend[_-])entry(?=\b|_)', r'\1premium', text)
     text = re.sub(r'\bentry(?=_(calls|lending|access|demands|image|listing|script)\b)', 'premium', text)
-    text = re.sub(r'(?<=Rattle·)entry(?=[.·])', 'premium', text)
+    text = re.sub(r'(?<=\bRattle\.)entry(?=\.)', 'premium', text)
     text = re.sub(r'(?<=\buse )entry(?=[ :;])', 'premium', text)
+    text = re.sub(r'(?<![\w:.])entry(?=::)', 'premium', text)
     text = re.sub(r'\bboard_script(_from)?\b', r'board_script\1_premium', text)
     return re.sub(r'\bLEND_ENTRY(?=_)', 'LEND_PREMIUM', text)
 
@@ -92,7 +94,7 @@ def crate_files(marked):
 def listed():
     """crates.txt with the premium crates' lines between their heading and the next one."""
     before, after = open('crates.txt').read().split(MARK)
-    lines = [line for line in before.splitlines() if line.split(':')[0] in CRATES]
+    lines = [line for line in before.splitlines() if re.match(r'\w*', line)[0] in CRATES]
     rest = after[after.index('#'):] if '#' in after else ''
     return before + MARK + ''.join(renamed_line(line) + '\n' for line in lines) + rest
 
@@ -109,12 +111,15 @@ def header():
 
 
 def formatted(made):
-    """The same files as `rt fmt` lays them out."""
+    """The same files as `rt fmt` lays them out, which works in the folder of a listed crate."""
     with tempfile.TemporaryDirectory() as top:
         for path, text in made.items():
             os.makedirs(os.path.dirname(f'{top}/{path}') or top, exist_ok=True)
             open(f'{top}/{path}', 'w').write(text)
-        subprocess.run(['rt', 'fmt'], cwd=top, check=True, stdout=subprocess.DEVNULL)
+        for crate in sorted({path.split('/')[1] for path in made if '/' in path}):
+            ran = subprocess.run(['rt', 'fmt'], cwd=f'{top}/crates/{crate}', stdout=subprocess.PIPE, stderr=subprocess.STDOUT, text=True)
+            if ran.returncode:
+                sys.exit(f'rt fmt in crates/{crate}: {ran.stdout}')
         return {path: open(f'{top}/{path}').read() for path in made}
 
 
@@ -130,6 +135,8 @@ def strangers(made):
 def write(made):
     for path in strangers(made):
         os.remove(path)
+        with contextlib.suppress(OSError):
+            os.removedirs(os.path.dirname(path))
     for path, text in made.items():
         os.makedirs(os.path.dirname(path) or '.', exist_ok=True)
         open(path, 'w').write(text)

@@ -4,13 +4,14 @@
 - a public function has no `requires`, and is under 40 lines with its contract;
 - a definition file, a proof file and a source file begin with a comment that says what they are for;
 - no size of a model stands as a bare number, outside the size files and what NO_SIZES lists;
-- a must-fail edit has its control beside it (tools/controls.py), or says why there is none; and docs/PROOF.md names it.
+- a must-fail edit has its control in controls/ (tools/controls.py), or says why there is none; and docs/PROOF.md names it.
 """
 import fnmatch
 import glob
 import re
 import sys
 
+import controls
 import heads
 
 # the sizes of both models: spaces, pages and frames, places, slots, bytes of a frame and of memory
@@ -20,14 +21,14 @@ NO_SIZES = [
     ('*', r'pick\([^,]*, \d+', 'a number that a `pick` gives is one of the document\'s table'),
     ('*', r'"[^"]*"', 'what a text says is no number'),
     ('crates/lend/specs/Ranges.antt', r'\(8 when', 'a number of the document\'s table'),
-    ('crates/script/specs/Script.antt', r'refuse st 16|inputLimit = 65536', 'a number of the table; the length of a script (01)'),
+    ('crates/script/specs/Script.antt', r'refuse st 16|input_limit = 65536', 'a number of the table; the length of a script (01)'),
     ('crates/script/src/lib.rt', r'INPUT_LIMIT: usize = 65536|FOR_THE_END: usize = 32', 'the same length; the bytes of two lines'),
     ('crates/script/*/Bound.antt crates/listing*/proofs/*.antt', r'(\+|≤) (16|32)\b', 'the bytes of a listing\'s first and last line'),
     ('crates/text*/proofs/*.antt', r'\b32 ∷|spare 8|16 ≤ length', 'the byte of a blank; digits; the shortest line'),
     ('crates/lend_basics/proofs/Rights.antt', r'\b8\b', 'three rights, on both models: their sums are below 8'),
     ('crates/lend_laws/* crates/lend_lending/* crates/lend_summary/* crates/lend_demands/*', r'< 8\b', 'the same'),
     ('crates/lend_code/proofs/Ranges.antt', r'< 64|\^ 64|k 64', 'the bits of a word of the machine'),
-    ('crates/*image/*', r'\b8 \*|[</%] 8\b|countBytes 8\b|\b256\b', 'the eight bytes of a count; the numbers of a byte'),
+    ('crates/*image/*', r'\b8 \*|[</%] 8\b|count_bytes 8\b|\b256\b', 'the eight bytes of a count; the numbers of a byte'),
     ('crates/lend_models/specs/Witness.antt', r'tabulate 16 look|look 16', 'looks at the first pages, which both models have'),
     ('crates/examples_on_k/specs/*', r'\b\d+\b', 'the examples of 01, with the numbers that stand there'),
 ]
@@ -79,13 +80,13 @@ for path in sorted(glob.glob('crates/*/specs/*.antt') + glob.glob('crates/*/proo
     if not path.endswith('/Lib.antt') and not text.startswith('--'):
         breach(path, 1, 'no comment at the top')
 
-for path in sorted(glob.glob('crates/**/*.*', recursive=True)):
-    if path.endswith(('.rt', '.antt')) and not path.endswith(('src/sizes.rt', 'specs/Sizes.antt')):
+for path in sorted(path for part in ('src/**/*.rt', 'specs/**/*.antt', 'proofs/**/*.antt') for path in glob.glob(f'crates/*/{part}', recursive=True)):
+    if not path.endswith(('src/sizes.rt', 'specs/Sizes.antt')):
         bare_sizes(path, open(path).read())
 
 named = set(re.findall(r'\w+', open('docs/PROOF.md').read()))
 for path in sorted(glob.glob('crates/*/must-fail/*.edit')):
-    if not glob.glob(path[:-len('.edit')] + '.control') and not re.search(r'(?m)^# no control: ', open(path).read()):
+    if not glob.glob(controls.beside(path)) and not re.search(r'(?m)^# no control: ', open(path).read()):
         breach(path, 1, 'an edit with neither a control nor a reason why there is none')
     if re.search(r'(\w+)\.edit$', path)[1] not in named:
         breach(path, 1, 'an edit that docs/PROOF.md does not name')

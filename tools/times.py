@@ -1,13 +1,15 @@
 #!/usr/bin/env python3
-"""times.py LOG: the table of crates in docs/PROOF.md anew: the lines of each crate as they are, its seconds from a log of `rt check`.
+"""times.py: the table of crates in docs/PROOF.md anew: the lines of each crate as they are, and its seconds from a run of `rt all verdict`
+that proves every crate from nothing, one after another. It takes as long as that.
 
-For instance, in a fresh clone with nothing beside it: `rt check >log 2>&1`, then `tools/times.py log`. What a crate is for stands in the
-table and is kept; a crate with no row there is an error. The made crates are added up in the last row.
+What a crate is for stands in the table and is kept; a crate with no row there is an error. The made crates are added up in the last row.
 """
 import glob
 import os
 import re
+import subprocess
 import sys
+import time
 
 import models
 
@@ -29,7 +31,7 @@ def added(rows):
 
 
 def table(purposes, seconds):
-    crates = re.findall(r'(?m)^(\w+):', open('crates.txt').read())
+    crates = re.findall(r'(?m)^(\w+)(?: staticlib)?:', open('crates.txt').read())
     written = [crate for crate in crates if crate not in models.CRATES.values()]
     row = '| {} | {} | {} | {} | {} | {} |\n'.format
     rows = [row(crate, purposes[crate], *figures(crate, seconds)) for crate in written]
@@ -39,10 +41,23 @@ def table(purposes, seconds):
     return ''.join(rows)
 
 
+def taken():
+    """The seconds of each crate, which rt names once it is done with it."""
+    seconds, last = {}, time.monotonic()
+    with subprocess.Popen(['rt', 'all', 'verdict', '--jobs', '1'], stdout=subprocess.PIPE, stderr=subprocess.STDOUT, text=True) as run:
+        for line in run.stdout:
+            if (m := re.fullmatch(r'== (\w+)\n', line)) and m[1] != 'summary':
+                now = time.monotonic()
+                seconds[m[1]], last = round(now - last), now
+                print(f'{m[1]}: {seconds[m[1]]} s', flush=True)
+    if run.returncode:
+        sys.exit('rt all verdict failed')
+    return seconds
+
+
 if __name__ == '__main__':
-    log = os.path.abspath(sys.argv[1])
     os.chdir(os.path.dirname(os.path.dirname(os.path.abspath(__file__))))
-    seconds = {crate: int(n) for crate, n in re.findall(r'(?m)^rt: (\w+) proved \((\d+) s\)', open(log).read())}
+    seconds = taken()
     text = open(PAGE).read()
     rows = list(re.finditer(ROW, text))
     end = text.index('\n\n', rows[-1].end() - 1) + 1

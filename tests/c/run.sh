@@ -1,11 +1,11 @@
 #!/bin/bash
-# run.sh [entry | premium | both]: the C examples over include/lend.h, linked with the archives that `rt staticlib` makes; all three where
+# run.sh [entry | premium | both]: the C examples over include/lend.h, linked with the archives that tools/lib.sh makes; all three where
 # none is named. example.c is one text for both models, and what it prints is expected.txt on either; both.c has a board of
 # each model in one program, and prints expected-both.txt.
 set -eu
 cd "$(dirname "$0")/../.."
 mkdir -p build
-entry=target/staticlib/liblend_entry.a premium=target/staticlib/liblend_premium.a
+entry=crates/lend_entry/out/liblend_entry.a premium=crates/lend_premium/out/liblend_premium.a
 [ $# -gt 0 ] || set -- entry premium both
 for model in "$@"; do
     case $model in
