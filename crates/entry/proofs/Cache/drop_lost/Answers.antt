@@ -1,3 +1,4 @@
+-- `drop_lost` meets its contract: the goals that are left, from the invariant.
 use Rattle.entry.proofs as own
 use Rattle.entry.specs as spec
 use Prim.Native.Nat.{◌-◌}

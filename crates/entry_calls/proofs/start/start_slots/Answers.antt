@@ -1,3 +1,4 @@
+-- `start_slots` meets its contract: the goals that are left, from the invariant.
 use Rattle.entry_calls.proofs as own
 use Prim.Native.Nat.{◌-◌}
 use Rattle.lend_basics.proofs.Loops.{changed_more}

@@ -1,3 +1,4 @@
+-- `unmap_range` meets its contract: the goals that are left, from the invariant.
 use Rattle.entry_calls.proofs as own
 use Rattle.entry_calls.specs as spec
 use Prim.Native.Nat.{◌-◌, ◌≤◌}

@@ -1,3 +1,4 @@
+-- `write_live` meets its contract: the goals that are left, from the invariant.
 use Rattle.entry_image.proofs as own
 use Rattle.lend.specs.Tables.{alive}
 use Prim.Native.Nat.{◌-◌, ◌≤◌}

@@ -1,3 +1,4 @@
+-- `write_places` meets its contract: the goals that are left, from the invariant.
 use Rattle.entry_image.proofs as own
 use lib.ListN.{length-set}
 use Prim.Native.Nat.{◌+◌, ◌*◌, ◌-◌, ◌≤◌}

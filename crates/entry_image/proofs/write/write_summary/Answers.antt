@@ -1,3 +1,4 @@
+-- `write_summary` meets its contract: the goals that are left, from the invariant.
 use Rattle.entry_image.proofs as own
 use Prim.Native.Nat.{◌+◌, ◌*◌, ◌-◌, ◌≤◌}
 use mathlib.Core.Path.{◌≡◌, refl}

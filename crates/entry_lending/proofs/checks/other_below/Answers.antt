@@ -1,3 +1,4 @@
+-- `other_below` meets its contract: the goals that are left, from the invariant.
 use Rattle.entry_lending.proofs as own
 use Prim.Native.Nat.{◌-◌, ◌*◌, ◌+◌}
 use mathlib.Core.Path.{◌≡◌}

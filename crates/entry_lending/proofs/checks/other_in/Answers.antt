@@ -1,3 +1,4 @@
+-- `other_in` meets its contract: the goals that are left, from the invariant.
 use Rattle.entry_lending.proofs as own
 use Prim.Native.Nat.{◌-◌}
 use native.Mathlib.Omega.{arith}

@@ -1,3 +1,4 @@
+-- `live_flags` meets its contract: the goals that are left, from the invariant.
 use Rattle.entry_listing.proofs as own
 use Prim.Native.Nat.{◌-◌}
 use native.Mathlib.Omega.{arith}

@@ -1,3 +1,4 @@
+-- `live_number` meets its contract: the goals that are left, from the invariant.
 use Rattle.entry_listing.proofs as own
 use Rattle.entry.specs.Sizes.{sizes}
 use own.Readable.{readable}

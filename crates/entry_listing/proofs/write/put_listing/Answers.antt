@@ -1,3 +1,4 @@
+-- `put_listing` meets its contract: the goals that are left, from the invariant.
 use Rattle.entry_listing.proofs as own
 use Prim.Native.Nat.{◌+◌, ◌-◌}
 use mathlib.Core.Path.{◌∙◌, ap}

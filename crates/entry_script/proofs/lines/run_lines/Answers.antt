@@ -1,3 +1,4 @@
+-- `run_lines` meets its contract: the goals that are left, from the invariant.
 use Rattle.entry_script.proofs as own
 use Prim.Native.Nat.{◌-◌, ◌≤◌}
 use lib.ListN.{length}

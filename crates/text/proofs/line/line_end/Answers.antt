@@ -1,3 +1,4 @@
+-- `line_end` meets its contract: the goals that are left, from the invariant.
 use Rattle.text.proofs as own
 use own.Seeking.{Seeking, seek_hit, seek_on, seek_end}
 use mathlib.Core.Path.{refl}

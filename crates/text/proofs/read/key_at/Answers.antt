@@ -1,3 +1,4 @@
+-- `key_at` meets its contract: the goals that are left, from the invariant.
 use Rattle.text.proofs as own
 use own.Reading.{Matching, match_out, match_other, match_more, match_all}
 use mathlib.Core.Path.{refl}

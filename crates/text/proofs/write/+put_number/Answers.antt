@@ -1,3 +1,4 @@
+-- `+put_number` meets its contract: the goals that are left, from the invariant.
 use Rattle.text.proofs as own
 use native.Mathlib.Omega.{arith}
 use own.Digits.{wrote_digit, wrote_digits}

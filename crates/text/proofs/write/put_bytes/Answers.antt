@@ -1,3 +1,4 @@
+-- `put_bytes` meets its contract: the goals that are left, from the invariant.
 use Rattle.text.proofs as own
 use own.Writing.{Putting, put_turn, put_end, wrote_length}
 use mathlib.Core.Path.{refl}
