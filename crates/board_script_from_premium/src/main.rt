@@ -1,6 +1,8 @@
 // Made by tools/models.py from crates/board_script_from/src/main.rt: change that file.
 // board-script --from for this model: runs the script on standard input, from the board of the listing that a file descriptor of its
 // own gives, and writes its output to standard output.
+#![tactic(auto)]
+
 ghost use Rattle.std.specs.Prelude.{◌≤◌, ◌≡◌, length, take};
 ghost use Rattle.io.specs.Counts.{IsPrefixLen};
 ghost use Rattle.script.specs.Script.{input_limit};

@@ -1,5 +1,7 @@
 // Made by tools/models.py from crates/board_script/src/main.rt: change that file.
 // board-script for this model: runs the script on standard input and writes its output to standard output.
+#![tactic(auto)]
+
 ghost use Rattle.std.specs.Prelude.{◌≤◌, ◌≡◌, length, take};
 ghost use Rattle.io.specs.Counts.{IsPrefixLen};
 ghost use Rattle.script.specs.Script.{input_limit, script_output};

@@ -1,6 +1,5 @@
 -- The board of this model as the tables that the rules speak of.
 use Rattle.std.specs.Prelude.{◌≡◌, refl}
-use Rattle.std.proofs.Common.{ap}
 use Rattle.lend.specs.Tables.{Tables}
 use Rattle.entry.specs.declared.Board.{Board}
 

@@ -1,15 +1,15 @@
 -- What holds of lists of calls in the rules holds of boards in sequence: demand 3 for the code.
 use mathlib.Core.Path.{◌≡◌, refl, sym, ap, ◌∙◌}
-use mathlib.Core.List.{List, [], ◌∷◌}
+use mathlib.Core.List.{List}
 use lib.Dec.{T, lit<}
 use Rattle.lend.specs.Tables.{State, alone}
 use Rattle.lend.specs.Sound.{Sound}
-use Rattle.lend.specs.Calls.{Call, Outcome, step, steps}
-use Rattle.lend_demands.specs.Demand3.{all_withdraw, end_board, Ends}
-use Rattle.lend_demands.proofs.Demand3.{demand_3, end_so, Within, same_calls_same_end}
+use Rattle.lend.specs.Calls.{Call, Outcome, steps}
+use Rattle.lend_demands.specs.Demand3.{all_withdraw, end_board}
+use Rattle.lend_demands.proofs.Demand3.{demand_3, Within, same_calls_same_end}
 use Rattle.entry.specs.declared.Board.{Board}
 use Rattle.entry.specs.Sizes.{sizes}
-use Rattle.entry.specs.Board.{tables, board_of, board_of_tables}
+use Rattle.entry.specs.Board.{tables, board_of}
 use Rattle.entry_demands.specs.Chain.{Chain, done, called}
 
 -- the sequence ends where the rules' list of calls does

@@ -2,7 +2,7 @@
 use Prim.Native.Nat.{ℕ}
 use mathlib.Core.Path.{◌≡◌, sym, subst, ap, ◌∙◌}
 use Rattle.lend.specs.Sizes.{key}
-use Rattle.lend.specs.Tables.{Tables, State, table_of, alone}
+use Rattle.lend.specs.Tables.{Tables, table_of, alone}
 use Rattle.lend.specs.Calls.{Grant, Outcome, step}
 use Rattle.lend_laws.proofs.Accepted.{step_number}
 use Rattle.lend_demands.specs.GivenAway.{GivenAway}

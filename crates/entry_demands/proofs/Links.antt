@@ -1,7 +1,7 @@
 -- M-101 for the function as it is called: a hit reports the links that a miss would.
 use Prim.Native.Nat.{ℕ}
 use mathlib.Core.Path.{◌≡◌, sym, ap, ◌∙◌}
-use Rattle.lend.specs.Tables.{State, alone}
+use Rattle.lend.specs.Tables.{alone}
 use Rattle.lend.specs.Calls.{Translate, Outcome, number, step}
 use Rattle.lend_laws.proofs.Accepted.{step_number}
 use Rattle.lend_lending.proofs.Insert.{hit_links_as_miss}

@@ -1,12 +1,11 @@
 -- The twelve examples hold on both models. On Entry each row is computed. A row whose numbers lie within Entry's limits then holds on
 -- Premium too, as the same command does the same on both; the rows of Premium's own last address are computed.
-use Prim.Native.Nat.{ℕ}
-use mathlib.Core.Path.{◌≡◌, refl, sym, subst, ap, ◌∙◌}
-use mathlib.Core.Bool.{false, not, ◌&&◌}
+use mathlib.Core.Path.{◌≡◌, refl, sym, ap, ◌∙◌}
+use mathlib.Core.Bool.{not, ◌&&◌}
 use mathlib.Core.List.{List, [], ◌∷◌}
 use mathlib.Core.Logic.{◌⊎◌, inl, inr, ⊎_elim}
 use lib.Dec.{T, T_not, eqb, lit<}
-use Rattle.lend.specs.Sizes.{Sizes, entry, premium}
+use Rattle.lend.specs.Sizes.{entry, premium}
 use Rattle.lend.specs.Rights.{less, within}
 use Rattle.lend.specs.Lists.{every, some, count, tabulate_from}
 use Rattle.lend.specs.Tables.{Tables, State, alone}
@@ -21,8 +20,7 @@ use Rattle.lend.specs.Lending.{mapped, granted}
 use Rattle.lend.specs.Spaces.{wiped_to}
 use Rattle.lend.specs.Emptied.{emptied}
 use Rattle.lend.specs.Translate.{physical, links_to, hit, looked}
-use Rattle.lend.specs.Calls.{Call, Unmap, Flush, Map, Grant, Delete, Outcome, Reply, plain_reply, cases, number, board_after, memory_after, report, step, steps}
-use Rattle.lend_basics.proofs.Bools.{and_false}
+use Rattle.lend.specs.Calls.{Outcome, cases, number, board_after, memory_after, report, step, steps}
 use Rattle.lend_sound.proofs.SoundTest.{test_sound}
 use Rattle.lend_lending.proofs.Always.{steps_sound}
 use Rattle.lend_models.specs.Embedding.{shared, wide, wide_slots, wide_live, wide_places, wide_summary}

@@ -8,7 +8,7 @@ use Rattle.lend.specs.Slots.{empty_slot, lent_slot}
 use Rattle.lend.specs.Tables.{Tables, alone}
 use Rattle.lend.specs.Sound.{Sound}
 use Rattle.lend.specs.Start.{start_board}
-use Rattle.lend.specs.Calls.{Call, Create, Delete, Unmap, Flush, Map, Grant, Translate, Reply, plain_reply, step, steps}
+use Rattle.lend.specs.Calls.{Call, Delete, Unmap, Flush, Map, Grant, Translate, Reply, plain_reply, step, steps}
 
 -- page p of space s keeps this slot
 abbrev pub put : Sizes → ℕ → ℕ → Slot → List Slot → List Slot

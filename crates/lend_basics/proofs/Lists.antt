@@ -1,6 +1,6 @@
 -- Laws of the list vocabulary: any and member, every and some, tabulated lists.
-use mathlib.Core.Path.{◌≡◌, refl, sym, subst, ap, ◌∙◌}
-use mathlib.Core.Bool.{Bool, true, false, not, ◌&&◌, ◌||◌, cond}
+use mathlib.Core.Path.{◌≡◌, refl, sym, ap, ◌∙◌}
+use mathlib.Core.Bool.{Bool, ◌||◌}
 use mathlib.Core.List.{List, [], ◌∷◌, map}
 use mathlib.Core.Logic.{◌⊎◌, inl, inr}
 use Prim.Native.Nat.{ℕ, zero, suc, ◌+◌, ◌≤◌, ◌<◌}
@@ -8,8 +8,8 @@ use native.Mathlib.Nat.{eq-or-lt_of_le, not-suc-le-zero, le_of_suc-le-suc, add-z
 use native.Mathlib.Omega.{arith}
 use lib.Dec.{T, eqb, eqb→eq, eqb_refl}
 use lib.ListN.{length, length-map, get_or, get_or-eq_default}
-use Rattle.lend.specs.Lists.{any, member, distinct, every, some, tabulate_from, tabulate}
-use Rattle.lend_basics.proofs.Bools.{and_l, and_r, and_i, or_l, or_r, or_cases, is_false}
+use Rattle.lend.specs.Lists.{any, member, every, some, tabulate_from, tabulate}
+use Rattle.lend_basics.proofs.Bools.{and_l, and_r, and_i, or_l, or_r, or_cases}
 
 -- ── lengths ──────────────────────────────────────────────────────────────
 -- what is known of an array of structs in a struct: `search (needs, length_unmap)` finds the length of its list

@@ -1,11 +1,11 @@
 -- The laws of rights, over 0 to 7, each by one test that antt computes.
 use mathlib.Core.Path.{◌≡◌, refl}
-use mathlib.Core.Bool.{Bool, true, not, ◌&&◌}
-use Prim.Native.Nat.{ℕ, zero, suc, ◌≤◌, ◌<◌}
+use mathlib.Core.Bool.{Bool, true, ◌&&◌}
+use Prim.Native.Nat.{ℕ, zero, suc, ◌<◌}
 use native.Mathlib.Nat.{le_of_suc-le-suc, not-suc-le-zero, eq-or-lt_of_le}
 use mathlib.Core.Logic.{◌⊎◌, inl, inr}
 use lib.Dec.{T, ltb, eqb, eqb→eq, ltb→lt}
-use lib.Bits.{bit_and, bit_or}
+use lib.Bits.{bit_or}
 use Rattle.lend.specs.Rights.{less, within}
 use Rattle.lend_basics.proofs.Bools.{and_l, and_r, implies, implied}
 

@@ -9,7 +9,7 @@ use lib.Dec.{ltb}
 use lib.ListN.{length, get_or, set, get_or-eq_default}
 use lib.Seq.{ext_get_or}
 use borrow.Author.Count.{below_more}
-use borrow.Author.Tests.{ltb-true, ltb-false}
+use borrow.Author.Tests.{ltb-false}
 use Rattle.lend.specs.declared.Place.{Place}
 use Rattle.lend.specs.Sizes.{Sizes, slot_count}
 use Rattle.lend.specs.Rights.{within}

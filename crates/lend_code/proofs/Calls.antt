@@ -9,13 +9,12 @@ use borrow.Author.Tests.{not-true, not-false}
 use Rattle.lend.specs.declared.Count.{Count}
 use Rattle.lend.specs.Sizes.{Sizes, slot_count, key}
 use Rattle.lend.specs.Rights.{all_rights}
-use Rattle.lend.specs.Tables.{Tables, State, alone, table_of}
+use Rattle.lend.specs.Tables.{Tables, alone, table_of}
 use Rattle.lend.specs.Line.{frame_of}
 use Rattle.lend.specs.Sound.{Sound}
 use Rattle.lend.specs.SoundTest.{sound_test, Tells}
-use Rattle.lend.specs.Emptied.{emptied}
 use Rattle.lend.specs.Numbers.{first_number}
-use Rattle.lend.specs.Calls.{Call, Create, Delete, Unmap, Flush, Outcome, number, cases, step, accept, refuse, board_after, memory_after, report, with_live}
+use Rattle.lend.specs.Calls.{Call, Create, Delete, Unmap, Flush, number, cases, step, accept, refuse, board_after, memory_after, report, with_live}
 use Rattle.lend_basics.proofs.Bools.{is_true, true_is}
 use Rattle.lend_sound.proofs.SoundTest.{test_sound, sound_test_law}
 use Rattle.lend_laws.proofs.Accepted.{accepted, refused, tested, PageFine, DeleteFine, CreateFine, create_fine, delete_fine, unmap_fine, flush_fine}

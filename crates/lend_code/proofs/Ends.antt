@@ -1,13 +1,11 @@
 -- The walk that tests every line and finds every frame, one page a turn, on a table whose slots fit.
 use mathlib.Core.Path.{◌≡◌, refl, sym, subst, ap, ◌∙◌}
 use mathlib.Core.Bool.{Bool, true, false, not, ◌&&◌, ◌||◌}
-use mathlib.Core.List.{List, [], ◌∷◌, map}
-use mathlib.Core.Option.{Option, none, some}
+use mathlib.Core.List.{List}
 use mathlib.Core.Logic.{◌⊎◌, inl, inr}
-use Prim.Native.Nat.{ℕ, zero, suc, ◌+◌, ◌-◌, ◌*◌, ◌/◌, ◌≤◌, ◌<◌}
-use native.Mathlib.Nat.{not-suc-le-zero}
+use Prim.Native.Nat.{ℕ, zero, suc, ◌+◌, ◌-◌, ◌≤◌, ◌<◌}
 use native.Mathlib.Omega.{arith}
-use lib.Dec.{T, eqb, ltb, leb, leb→le, nleb→lt, ltb→lt}
+use lib.Dec.{T, eqb, leb, leb→le, nleb→lt, ltb→lt}
 use lib.ListN.{length, set}
 use Rattle.lend.specs.declared.Link.{Link}
 use Rattle.lend.specs.declared.Link.TheVariants.{Nothing, Frame, Page}
@@ -15,7 +13,7 @@ use Rattle.lend.specs.declared.Slot.{Slot}
 use Rattle.lend.specs.Sizes.{Sizes, slot_count, key, space_of, in_pool}
 use Rattle.lend.specs.Lists.{any, every}
 use Rattle.lend.specs.Slots.{Table, slot_at, held}
-use Rattle.lend.specs.Line.{line, line_of, frame, frame_of}
+use Rattle.lend.specs.Line.{line, frame, frame_of}
 use Rattle.lend.specs.SoundTest.{slot_test}
 use Rattle.lend_basics.proofs.Bools.{and_l, and_r, or_cases, not_or, is_true, not_is_false, true_is, and_false}
 use Rattle.lend_basics.proofs.Loops.{Built, built_none, built_more, built_all, Tested, tested_none, tested_more, tested_not, tested_all}

@@ -1,19 +1,16 @@
 -- The test of one slot with its parent's slot at hand is the test of the definitions.
-use mathlib.Core.Path.{◌≡◌, refl, sym, ap, ◌∙◌}
+use mathlib.Core.Path.{◌≡◌, refl, ap}
 use mathlib.Core.Bool.{Bool, true, false, not, ◌&&◌, cond}
 use mathlib.Core.List.{List}
 use Prim.Native.Nat.{ℕ, suc, ◌+◌, ◌*◌, ◌≤◌, ◌<◌}
 use native.Mathlib.Nat.{mul-le-mul_right}
 use native.Mathlib.Omega.{arith}
-use lib.Dec.{T, ltb, leb, ltb→lt}
+use lib.Dec.{T, ltb, ltb→lt}
 use borrow.Author.Tests.{lt-ltb, ltb-true}
 use Rattle.lend.specs.declared.Link.{Link}
 use Rattle.lend.specs.declared.Link.TheVariants.{Nothing, Frame, Page}
-use Rattle.lend.specs.declared.Slot.{Slot}
-use Rattle.lend.specs.Sizes.{Sizes, slot_count, key, space_of, in_pool}
-use Rattle.lend.specs.Rights.{all_rights, within}
-use Rattle.lend.specs.Slots.{Table, slot_at, held}
-use Rattle.lend.specs.Tables.{alive}
+use Rattle.lend.specs.Sizes.{Sizes, slot_count, key, in_pool}
+use Rattle.lend.specs.Slots.{Table}
 use Rattle.lend.specs.SoundTest.{lent_test, link_test}
 use Rattle.lend_basics.proofs.Bools.{and_l, and_r, same_test}
 use Rattle.lend_code.specs.Inner.{up_of, inside_of, lent_fits, link_fits}

@@ -4,11 +4,10 @@ use mathlib.Core.Path.{◌≡◌, refl, sym, subst, ap, ◌∙◌}
 use mathlib.Core.Bool.{Bool, true, false, not, ◌&&◌, ◌||◌}
 use mathlib.Core.List.{List, [], ◌∷◌, map}
 use mathlib.Core.Logic.{◌⊎◌, inl, inr}
-use Prim.Native.Nat.{ℕ, zero, suc, ◌+◌, ◌-◌, ◌*◌, ◌≤◌, ◌<◌}
+use Prim.Native.Nat.{ℕ, zero, suc, ◌-◌, ◌≤◌, ◌<◌}
 use native.Mathlib.Nat.{not-suc-le-zero, le_of_suc-le-suc}
 use native.Mathlib.Omega.{arith}
 use lib.Dec.{T, eqb, T_not, not_T}
-use lib.ListN.{length}
 use Rattle.lend.specs.declared.Link.{Link}
 use Rattle.lend.specs.declared.Link.TheVariants.{Nothing, Frame, Page}
 use Rattle.lend.specs.declared.Slot.{Slot}
@@ -17,11 +16,11 @@ use Rattle.lend.specs.Lists.{any, member, distinct, every}
 use Rattle.lend.specs.Slots.{Table, slot_at, held}
 use Rattle.lend.specs.Line.{line, line_of, parent, onward}
 use Rattle.lend.specs.SoundTest.{line_test}
-use Rattle.lend_basics.proofs.Bools.{and_l, and_r, and_i, or_l, or_r, or_cases, same_test, is_true, not_is_false}
+use Rattle.lend_basics.proofs.Bools.{and_l, and_r, and_i, or_l, or_r, or_cases, same_test, not_is_false}
 use Rattle.lend_basics.proofs.Lists.{any_map, each, every_of}
 use Rattle.lend_code.specs.Inner.{Fitting, quick_line}
 use Rattle.lend_code.proofs.Fits.{key_in}
-use Rattle.lend_code.proofs.Ends.{fit_page, fit_frame, LentBy}
+use Rattle.lend_code.proofs.Ends.{fit_page, fit_frame}
 
 -- what is on a line is on it when it is followed further
 any_further : (z : Sizes) (f : Table) (t : ℕ → Bool) (m n k : ℕ) → m ≤ n → T (any t (line z f m k)) → T (any t (line z f n k))

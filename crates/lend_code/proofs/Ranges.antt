@@ -1,14 +1,14 @@
 -- Which pages a range names: the code's number of a part's pages, and how far a range reaches.
-use mathlib.Core.Path.{◌≡◌, refl, sym, ap, ◌∙◌}
+use mathlib.Core.Path.{◌≡◌, refl, ◌∙◌}
 use mathlib.Core.Bool.{Bool, true, false, ◌&&◌, ◌||◌, cond}
-use Prim.Native.Nat.{ℕ, zero, suc, ◌+◌, ◌*◌, ◌-◌, ◌%◌, ◌^◌, ◌≤◌, ◌<◌}
-use native.Mathlib.Nat.{one-mul, mod-le, two-pow-succ}
+use Prim.Native.Nat.{ℕ, zero, suc, ◌*◌, ◌-◌, ◌%◌, ◌^◌, ◌≤◌, ◌<◌}
+use native.Mathlib.Nat.{one-mul, two-pow-succ}
 use native.Mathlib.Omega.{arith}
 use lib.Dec.{eqb, ltb, leb, lit<}
 use lib.Pow.{pow_pos, shl_exact}
 use borrow.Author.Tests.{ltb-true, leb-true, leb-false, lt-ltb, le-ltb, le-leb, lt-leb, ne_eqb}
 use Rattle.lend.specs.Sizes.{Sizes}
-use Rattle.lend.specs.Ranges.{Range, Invalid, Pages, part_pages, is_part, range_of, first_page, page_count}
+use Rattle.lend.specs.Ranges.{Range, Invalid, Pages, part_pages, range_of, first_page, page_count}
 use Rattle.lend_code.specs.Ranges.{part_count}
 
 -- ── powers of two ────────────────────────────────────────────────────────

@@ -2,7 +2,7 @@
 use mathlib.Core.Path.{◌≡◌, refl, sym, ap, ◌∙◌}
 use mathlib.Core.Bool.{Bool, true, false, not, ◌&&◌, ◌||◌}
 use mathlib.Core.List.{List}
-use Prim.Native.Nat.{ℕ, zero, suc, ◌≤◌, ◌<◌}
+use Prim.Native.Nat.{ℕ, ◌≤◌, ◌<◌}
 use native.Mathlib.Omega.{arith}
 use lib.Dec.{T, eqb, ltb, leb, eqb→eq, ltb→lt, leb→le}
 use lib.ListN.{length, get_or, replicate, get_or-eq_default}
@@ -13,9 +13,9 @@ use Rattle.lend.specs.declared.Link.TheVariants.{Nothing, Frame, Page}
 use Rattle.lend.specs.declared.Place.{Place}
 use Rattle.lend.specs.declared.Slot.{Slot}
 use Rattle.lend.specs.declared.Count.{Count}
-use Rattle.lend.specs.Sizes.{Sizes, slot_count, key, in_pool}
+use Rattle.lend.specs.Sizes.{Sizes, slot_count, in_pool}
 use Rattle.lend.specs.Lists.{every, tabulate}
-use Rattle.lend.specs.Slots.{Table, empty_slot, slot_at, held, linked}
+use Rattle.lend.specs.Slots.{empty_slot, slot_at, held, linked}
 use Rattle.lend.specs.Tables.{Tables, Shaped, table_of, alive}
 use Rattle.lend.specs.Line.{frame_of}
 use Rattle.lend.specs.Cache.{filled, page_named, place_at, place_for}

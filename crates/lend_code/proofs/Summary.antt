@@ -7,7 +7,7 @@ use native.Mathlib.Decide.{dec_lt, ℕ_discrete}
 use native.Mathlib.Numerals.{add-one}
 use native.Mathlib.Nat.{le_of_eq, add-zero}
 use native.Mathlib.Omega.{arith}
-use lib.Dec.{T, eqb, ltb, lit<}
+use lib.Dec.{T, eqb}
 use mir.Val.{bool_byte}
 use lib.ListN.{length, get_or, set, length-set, replicate, length-replicate, get_or-replicate, get_or-eq_default}
 use lib.Seq.{ext_get_or, get_or-set_same, get_or-set_other}

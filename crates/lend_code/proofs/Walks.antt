@@ -1,21 +1,20 @@
 -- The walk along the lines of all pages, one page a turn: what holds before each turn, and that each kind of turn keeps it.
 use mathlib.Core.Path.{◌≡◌, refl, sym, ap, ◌∙◌}
-use mathlib.Core.Bool.{Bool, true, false, not, ◌||◌, cond}
-use mathlib.Core.List.{List, [], ◌∷◌}
-use mathlib.Core.Option.{Option, none, some}
+use mathlib.Core.Bool.{Bool, true, false, not, ◌||◌}
+use mathlib.Core.List.{List}
 use mathlib.Core.Logic.{◌⊎◌, inl, inr}
-use Prim.Native.Nat.{ℕ, zero, suc, ◌+◌, ◌-◌, ◌*◌, ◌≤◌, ◌<◌}
+use Prim.Native.Nat.{ℕ, zero, suc, ◌+◌, ◌-◌, ◌≤◌, ◌<◌}
 use native.Mathlib.Omega.{arith}
 use native.Mathlib.Nat.{not-suc-le-zero}
 use lib.Dec.{T, leb, leb→le, nleb→lt}
-use lib.ListN.{length, get_or, set, get_or-eq_default}
+use lib.ListN.{length, set, get_or-eq_default}
 use Rattle.lend.specs.declared.Link.{Link}
 use Rattle.lend.specs.declared.Link.TheVariants.{Nothing, Frame, Page}
 use Rattle.lend.specs.declared.Slot.{Slot}
 use Rattle.lend.specs.Sizes.{Sizes, slot_count, key}
-use Rattle.lend.specs.Lists.{any, tabulate}
+use Rattle.lend.specs.Lists.{any}
 use Rattle.lend.specs.Slots.{Table, slot_at}
-use Rattle.lend.specs.Line.{line, line_of, parent, parent_of, onward}
+use Rattle.lend.specs.Line.{line, line_of, parent, onward}
 use Rattle.lend_basics.proofs.Bools.{or_false, or_cases, not_or, is_true, true_is, not_is_false}
 use Rattle.lend_basics.proofs.Loops.{Built, built_none, built_more, built_all}
 use Rattle.lend_code.specs.Inner.{up_of, has, line_has}

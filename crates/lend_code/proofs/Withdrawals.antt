@@ -2,22 +2,22 @@
 use mathlib.Core.Path.{◌≡◌, refl, sym, subst, ap, ◌∙◌, fun_ext}
 use mathlib.Core.Bool.{Bool, true, false, not, ◌&&◌, ◌||◌, cond}
 use mathlib.Core.List.{List}
-use Prim.Native.Nat.{ℕ, zero, suc, ◌+◌, ◌*◌, ◌/◌, ◌≤◌, ◌<◌}
+use Prim.Native.Nat.{ℕ, ◌/◌, ◌≤◌, ◌<◌}
 use native.Mathlib.Nat.{div-lt_iff_lt-mul}
 use native.Mathlib.Decide.{dec_lt, ℕ_discrete}
 use native.Mathlib.Omega.{arith}
-use lib.Dec.{T, eqb, lit<}
-use lib.ListN.{length, get_or, set, length-set, get_or-eq_default}
+use lib.Dec.{T, eqb}
+use lib.ListN.{length, get_or, set, get_or-eq_default}
 use lib.Seq.{ext_get_or, get_or-set_same, get_or-set_other}
 use borrow.Author.Tests.{eq-eqb, ne_eqb}
 use Rattle.lend.specs.declared.Count.{Count}
 use Rattle.lend.specs.declared.Slot.{Slot}
 use Rattle.lend.specs.Sizes.{Sizes, slot_count, key, space_of}
-use Rattle.lend.specs.Rights.{all_rights, less, within}
+use Rattle.lend.specs.Rights.{all_rights, less}
 use Rattle.lend.specs.Lists.{any, count}
 use Rattle.lend.specs.Slots.{Table, empty_slot, slot_at, held, with_rights, cut}
-use Rattle.lend.specs.Tables.{Tables, Shaped, alone, table_of}
-use Rattle.lend.specs.Line.{line_of, is_on_line, below, meets, frame_of}
+use Rattle.lend.specs.Tables.{Tables, alone, table_of}
+use Rattle.lend.specs.Line.{line_of, is_on_line, below, frame_of}
 use Rattle.lend.specs.Summary.{summary_of}
 use Rattle.lend.specs.Cache.{dropped_where, lost_right}
 use Rattle.lend.specs.Sound.{SoundPages, Sound}

@@ -1,5 +1,5 @@
 -- What the inner functions of a model's code compute. Only their contracts speak of these; no caller has to read them.
-use Rattle.std.specs.Prelude.{ℕ, zero, suc, ◌+◌, ◌-◌, ◌<◌, ◌≡◌, Bool, true, false, not, ◌&&◌, ◌||◌, cond, List, length, get_or, set, replicate, T, eqb, ltb, leb}
+use Rattle.std.specs.Prelude.{ℕ, zero, suc, ◌+◌, ◌-◌, ◌<◌, ◌≡◌, Bool, true, false, not, ◌&&◌, ◌||◌, cond, List, get_or, set, replicate, T, eqb, ltb, leb}
 use Rattle.lend.specs.declared.Link.{Link}
 use Rattle.lend.specs.declared.Link.TheVariants.{Nothing, Frame, Page}
 use Rattle.lend.specs.declared.Slot.{Slot}

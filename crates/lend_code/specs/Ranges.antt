@@ -1,5 +1,5 @@
 -- What the inner functions of the calls over ranges compute. Only their contracts speak of these; no caller has to read them.
-use Rattle.std.specs.Prelude.{ℕ, ◌+◌, Bool, not, ◌&&◌, cond, List, ◌∷◌, eqb, ltb, leb}
+use Rattle.std.specs.Prelude.{ℕ, ◌+◌, not, ◌&&◌, cond, List, ◌∷◌, eqb, ltb, leb}
 use Rattle.lend.specs.Sizes.{Sizes}
 use Rattle.lend.specs.Tables.{Tables, State, alone}
 use Rattle.lend.specs.SoundTest.{sound_test}

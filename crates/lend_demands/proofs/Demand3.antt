@@ -1,33 +1,32 @@
 -- Demand 3: any list of one-page unmap and flush calls ends at the board that the start board and the accepted calls determine.
 use mathlib.Core.Path.{◌≡◌, refl, sym, subst, ap, ◌∙◌, fun_ext}
-use mathlib.Core.Bool.{Bool, true, false, not, ◌&&◌, ◌||◌, cond}
+use mathlib.Core.Bool.{Bool, true, false, ◌||◌, cond}
 use mathlib.Core.List.{List, [], ◌∷◌}
-use Prim.Native.Nat.{ℕ, zero, suc, ◌≤◌, ◌<◌}
+use Prim.Native.Nat.{ℕ, ◌≤◌, ◌<◌}
 use native.Mathlib.Decide.{ℕ_discrete}
-use native.Mathlib.Omega.{arith}
-use lib.Dec.{T, eqb, eqb→eq, lit<}
+use lib.Dec.{T, eqb, lit<}
 use lib.Bits.{bit_or}
 use lib.ListN.{length}
 use borrow.Author.Tests.{eq-eqb, ne_eqb}
 use Rattle.lend.specs.declared.Slot.{Slot}
 use Rattle.lend.specs.Sizes.{Sizes, key}
 use Rattle.lend.specs.Rights.{less, within}
-use Rattle.lend.specs.Slots.{Table, empty_slot, slot_at, held, cut}
+use Rattle.lend.specs.Slots.{Table, empty_slot, held, cut}
 use Rattle.lend.specs.Tables.{Tables, State, alone, table_of}
 use Rattle.lend.specs.Line.{is_on_line, below}
 use Rattle.lend.specs.Cache.{empty_place, page_named, place_at, dropped_where}
-use Rattle.lend.specs.Sound.{SoundPages, Sound}
+use Rattle.lend.specs.Sound.{Sound}
 use Rattle.lend.specs.Withdraw.{unmapped, flushed}
-use Rattle.lend.specs.Calls.{Call, Create, Delete, Unmap, Flush, Map, Grant, Translate, Load, Store, number, cases, step, steps, accept, board_after, memory_after}
+use Rattle.lend.specs.Calls.{Call, Create, Delete, Unmap, Flush, Map, Grant, Translate, Load, Store, number, cases, step, steps, board_after, memory_after}
 use Rattle.lend_basics.proofs.Bools.{and_l, and_r}
-use Rattle.lend_basics.proofs.Rights.{join, less_none, within_zero_l, within_trans, within_antisym, within_join_l, within_join_r, join_lt, join_least}
-use Rattle.lend_laws.proofs.Withdraw.{right_link, withdraw, Closed, not_held, cut_empty, withdraw_sound, below_kept}
+use Rattle.lend_basics.proofs.Rights.{join, within_zero_l, within_trans, within_antisym, within_join_l, within_join_r, join_lt, join_least}
+use Rattle.lend_laws.proofs.Withdraw.{right_link, withdraw, Closed, not_held, cut_empty, below_kept}
 use Rattle.lend_laws.proofs.Flush.{length_unmapped, length_flushed, unmapped_at, flushed_at, unmap_closed, flush_closed}
 use Rattle.lend_laws.proofs.Spaces.{out_of_pool}
 use Rattle.lend_laws.proofs.CacheDrops.{at_dropped}
-use Rattle.lend_laws.proofs.Accepted.{accepted, refused, PageFine, unmap_fine, flush_fine}
-use Rattle.lend_laws.proofs.Keeps.{Plain, plain, keeps_sound}
-use Rattle.lend_demands.specs.Demand3.{withdraws, all_withdraw, asks, accepts, takes, taken, loses_some, less_board, end_board, Ends}
+use Rattle.lend_laws.proofs.Accepted.{accepted, refused, unmap_fine, flush_fine}
+use Rattle.lend_laws.proofs.Keeps.{Plain, keeps_sound}
+use Rattle.lend_demands.specs.Demand3.{withdraws, all_withdraw, asks, takes, taken, loses_some, less_board, end_board, Ends}
 use Rattle.lend_demands.proofs.Ended.{less_is, less_same, less_twice, less_nothing, slots_less, on_or_below, same_number}
 
 -- memory does not matter to these calls, nor they to it

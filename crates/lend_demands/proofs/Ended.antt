@@ -2,34 +2,31 @@
 use mathlib.Core.Path.{◌≡◌, refl, sym, subst, ap, ◌∙◌, fun_ext}
 use mathlib.Core.Bool.{Bool, true, false, not, ◌&&◌, ◌||◌, cond}
 use mathlib.Core.List.{List, [], ◌∷◌}
-use Prim.Native.Nat.{ℕ, zero, suc, ◌≤◌, ◌<◌}
+use Prim.Native.Nat.{ℕ, ◌<◌}
 use native.Mathlib.Decide.{ℕ_discrete}
-use native.Mathlib.Omega.{arith}
-use lib.Dec.{T, eqb, eqb→eq, eqb_refl, lit<}
-use lib.Bits.{bit_or}
+use lib.Dec.{T, eqb, eqb→eq}
 use lib.ListN.{length}
 use lib.Seq.{ext_get_or}
-use borrow.Author.Tests.{eq-eqb, ne_eqb, eqb-true, eqb-false}
+use borrow.Author.Tests.{eq-eqb, ne_eqb}
 use Rattle.lend.specs.declared.Place.{Place}
 use Rattle.lend.specs.declared.Slot.{Slot}
-use Rattle.lend.specs.Sizes.{Sizes, key}
+use Rattle.lend.specs.Sizes.{Sizes}
 use Rattle.lend.specs.Rights.{less, within}
-use Rattle.lend.specs.Slots.{Table, empty_slot, slot_at, held, cut, each_slot}
-use Rattle.lend.specs.Tables.{Tables, State, alone, table_of}
+use Rattle.lend.specs.Slots.{Table, empty_slot, slot_at, cut, each_slot}
+use Rattle.lend.specs.Tables.{Tables, alone, table_of}
 use Rattle.lend.specs.Line.{is_on_line, below}
 use Rattle.lend.specs.Summary.{summary_of}
 use Rattle.lend.specs.Cache.{empty_place, page_named, dropped_where, lost_right}
 use Rattle.lend.specs.Sound.{SoundPages, Sound}
 use Rattle.lend.specs.SoundTest.{sound_test}
-use Rattle.lend.specs.Withdraw.{unmapped, flushed}
-use Rattle.lend.specs.Calls.{Call, Unmap, Flush, number, cases, step, board_after, with_slots, no_taker}
-use Rattle.lend_basics.proofs.Bools.{same_test, is_true, or_false, not_not}
-use Rattle.lend_basics.proofs.Rights.{join, less_none, less_lt, less_zero, less_less, less_whole, less_within, within_refl, within_antisym, join_lt}
+use Rattle.lend.specs.Calls.{Unmap, Flush, number, cases, with_slots, no_taker}
+use Rattle.lend_basics.proofs.Bools.{same_test, is_true, or_false}
+use Rattle.lend_basics.proofs.Rights.{join, less_lt, less_zero, less_less, less_whole, less_within, within_refl, within_antisym}
 use Rattle.lend_sound.proofs.Lines.{line_self}
 use Rattle.lend_sound.proofs.SoundTest.{sound_test_law}
-use Rattle.lend_laws.proofs.Withdraw.{withdraw, Closed, rights_small, not_held, cut_zero, cut_empty, cut_cut, withdraw_sound, on_line_kept, below_kept}
-use Rattle.lend_laws.proofs.Flush.{each_at, length_each, length_unmapped, length_flushed, unmapped_at, flushed_at}
-use Rattle.lend_demands.specs.Demand3.{asks, loses_some, less_board}
+use Rattle.lend_laws.proofs.Withdraw.{withdraw, rights_small, cut_zero, cut_empty, cut_cut}
+use Rattle.lend_laws.proofs.Flush.{each_at, length_each}
+use Rattle.lend_demands.specs.Demand3.{loses_some, less_board}
 
 -- ── two losses of one page ───────────────────────────────────────────────
 -- a right is lost exactly when the rights change

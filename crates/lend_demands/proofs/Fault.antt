@@ -1,7 +1,7 @@
 -- The customer's fault, shut out: an accepted grant leaves nothing of the giver's page and of what stood below it, and every
 -- translation goes to the frame at the end of the page's line as the board now is.
 use mathlib.Core.Path.{◌≡◌, refl, sym, subst, ap, ◌∙◌}
-use mathlib.Core.Bool.{Bool, true, false, not, ◌||◌, cond}
+use mathlib.Core.Bool.{Bool, true, false, not, cond}
 use mathlib.Core.List.{List}
 use Prim.Native.Nat.{ℕ}
 use lib.Dec.{T, eqb, eqb→eq, eqb_refl, T_not}
@@ -10,9 +10,9 @@ use Rattle.lend.specs.declared.Slot.{Slot}
 use Rattle.lend.specs.Sizes.{Sizes, key, space_of}
 use Rattle.lend.specs.Rights.{all_rights}
 use Rattle.lend.specs.Lists.{member}
-use Rattle.lend.specs.Slots.{empty_slot, lent_slot, slot_at, held, cut}
+use Rattle.lend.specs.Slots.{empty_slot, slot_at, held, cut}
 use Rattle.lend.specs.Tables.{Tables, State, table_of}
-use Rattle.lend.specs.Line.{line_of, is_on_line, below, meets}
+use Rattle.lend.specs.Line.{line_of, is_on_line, meets}
 use Rattle.lend.specs.Sound.{SoundPages, Sound}
 use Rattle.lend.specs.Withdraw.{flushed}
 use Rattle.lend.specs.Lending.{mapped}
@@ -26,7 +26,7 @@ use Rattle.lend_laws.proofs.Withdraw.{rights_small, not_held, cut_zero, cut_empt
 use Rattle.lend_laws.proofs.Flush.{flushed_at}
 use Rattle.lend_laws.proofs.Accepted.{accepted, tested}
 use Rattle.lend_lending.proofs.Map.{Lendable}
-use Rattle.lend_lending.proofs.Grant.{grant_fine, HandedOn, handed_on_law}
+use Rattle.lend_lending.proofs.Grant.{grant_fine, handed_on_law}
 use Rattle.lend_lending.proofs.Taker.{one_sound, mapped_taker, mapped_apart, mapped_line}
 use Rattle.lend_lending.proofs.Insert.{RightAnswer, translate_right}
 use Rattle.lend_demands.specs.GivenAway.{GivenAway}

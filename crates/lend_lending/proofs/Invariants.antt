@@ -8,7 +8,7 @@ use mathlib.Core.Logic.{◌⊎◌, inl, inr, ◌↔◌}
 use Prim.Native.Nat.{ℕ, ◌≤◌}
 use native.Mathlib.Decide.{ℕ_discrete}
 use native.Mathlib.Omega.{arith}
-use lib.Dec.{T, eqb, eqb→eq, eqb_refl, T_not}
+use lib.Dec.{T, eqb, eqb→eq, T_not}
 use lib.ListN.{length}
 use Rattle.lend.specs.declared.Link.{Link}
 use Rattle.lend.specs.declared.Link.TheVariants.{Nothing, Frame, Page}
@@ -18,11 +18,11 @@ use Rattle.lend.specs.Rights.{within}
 use Rattle.lend.specs.Lists.{member, distinct}
 use Rattle.lend.specs.Slots.{Table, linked, held}
 use Rattle.lend.specs.Tables.{Tables, State, table_of}
-use Rattle.lend.specs.Line.{parent, Line, ends, climbs, line_of, is_on_line, below, frame_of}
+use Rattle.lend.specs.Line.{parent, Line, ends, climbs, line_of, is_on_line, frame_of}
 use Rattle.lend.specs.Cache.{page_named, place_at, names, place_for, cached}
 use Rattle.lend.specs.Sound.{SoundPages, Sound}
 use Rattle.lend.specs.Calls.{Call, steps}
-use Rattle.lend_basics.proofs.Bools.{and_l, and_r, and_i, or_r, or_cases, differ}
+use Rattle.lend_basics.proofs.Bools.{and_l, and_r, or_r, or_cases}
 use Rattle.lend_basics.proofs.Lists.{member_map}
 use Rattle.lend_sound.proofs.Lines.{parent_link, the_line, line_step, line_once, line_self, parent_held}
 use Rattle.lend_laws.proofs.Withdraw.{held_pos}

@@ -1,16 +1,15 @@
 -- The calls over ranges are made of one-page calls: they too keep a sound board sound, and memory as long as it was.
-use mathlib.Core.Path.{◌≡◌, refl, ap, ◌∙◌}
+use mathlib.Core.Path.{◌≡◌, ap, ◌∙◌}
 use mathlib.Core.Bool.{Bool, true, false, cond}
 use Prim.Native.Nat.{ℕ, zero, suc, ◌≤◌}
 use lib.Dec.{eqb}
-use lib.ListN.{length}
 use Rattle.lend.specs.Sizes.{Sizes}
 use Rattle.lend.specs.Tables.{State}
 use Rattle.lend.specs.Sound.{Sound}
 use Rattle.lend.specs.Calls.{Call, Outcome, step}
 use Rattle.lend.specs.Ranges.{RangeCall, range_number, range_pages, page_call, Progress, page_made, page_done, page_passed, range_to, range_done, range_refused, range_step}
 use Rattle.lend_laws.proofs.Accepted.{refused, step_number}
-use Rattle.lend_lending.proofs.Always.{step_sound, memory_long}
+use Rattle.lend_lending.proofs.Always.{step_sound}
 
 -- a call that reports another number than 0 has left the state as it was
 pub passed_state : (z : Sizes) (st : State) (c : Call) → ((step z st c).reply.number ≡ 0 → ⊥) → (step z st c).state ≡ st

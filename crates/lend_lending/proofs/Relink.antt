@@ -21,7 +21,7 @@ use Rattle.lend.specs.Cache.{page_named}
 use Rattle.lend.specs.Sound.{Lent, Rooted, SoundPages, Names}
 use Rattle.lend_basics.proofs.Bools.{and_i, or_r}
 use Rattle.lend_basics.proofs.Lists.{any_map}
-use Rattle.lend_sound.proofs.Lines.{is_line_same, frame_same, line_unique, the_line, line_reaches, line_once}
+use Rattle.lend_sound.proofs.Lines.{is_line_same, frame_same, the_line, line_reaches, line_once}
 
 -- page t gets the slot x, the others keep theirs
 abbrev pub relink : ℕ → Slot → Table → Table

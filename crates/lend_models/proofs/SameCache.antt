@@ -9,7 +9,6 @@ use lib.ListN.{length}
 use Rattle.lend.specs.Sizes.{Sizes}
 use Rattle.lend.specs.Tables.{State}
 use Rattle.lend.specs.Sound.{Sound}
-use Rattle.lend.specs.Translate.{hit}
 use Rattle.lend.specs.Calls.{Call, Create, Delete, Unmap, Flush, Map, Grant, Translate, Load, Store, number, report, step, steps}
 use Rattle.lend_basics.proofs.Bools.{and_l, and_r, or_l, or_r, and_true}
 use Rattle.lend_laws.proofs.Accepted.{accepted, refused}

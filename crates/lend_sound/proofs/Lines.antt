@@ -5,7 +5,7 @@ use mathlib.Core.List.{List, [], ◌∷◌, map}
 use mathlib.Core.Option.{Option, none, some}
 use mathlib.Core.Logic.{◌⊎◌, inl, inr}
 use Prim.Native.Nat.{ℕ, zero, suc, ◌+◌, ◌≤◌, ◌<◌}
-use native.Mathlib.Nat.{le_of_suc-le-suc, not-suc-le-zero, le_trans, le_of_eq, div-eq_of_lt, mul-add-div_right, add-zero}
+use native.Mathlib.Nat.{le_of_suc-le-suc, not-suc-le-zero, le_trans, div-eq_of_lt, mul-add-div_right, add-zero}
 use native.Mathlib.Decide.{dec_lt}
 use native.Mathlib.Omega.{arith}
 use lib.Dec.{T, eqb, eqb→eq, eqb_refl, T_not}

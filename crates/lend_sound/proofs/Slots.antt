@@ -2,7 +2,7 @@
 use mathlib.Core.Path.{◌≡◌, refl, ap, ◌∙◌}
 use mathlib.Core.Bool.{Bool, not}
 use mathlib.Core.List.{List}
-use mathlib.Core.Option.{none, some}
+use mathlib.Core.Option.{none}
 use Prim.Native.Nat.{ℕ, ◌≤◌, ◌<◌}
 use native.Mathlib.Nat.{div-eq_of_lt, mul-le-mul_right}
 use native.Mathlib.Decide.{dec_lt}
@@ -19,7 +19,6 @@ use Rattle.lend.specs.Line.{parent}
 use Rattle.lend.specs.Sound.{Lent}
 use Rattle.lend.specs.SoundTest.{slot_test, link_test}
 use Rattle.lend_basics.proofs.Bools.{and_l, and_r}
-use Rattle.lend_sound.proofs.Lines.{parent_link}
 
 module _ (z : Sizes) (live : List Bool) (f : Table) (ok : (k : ℕ) → k < slot_count z → T (slot_test z live f k)) (past : (k : ℕ) → slot_count z ≤ k → f k ≡ empty_slot) where
   -- a held page is one of the table's

@@ -1,7 +1,6 @@
 -- Made by tools/models.py from crates/entry/specs/Board.antt: change that file.
 -- The board of this model as the tables that the rules speak of.
 use Rattle.std.specs.Prelude.{◌≡◌, refl}
-use Rattle.std.proofs.Common.{ap}
 use Rattle.lend.specs.Tables.{Tables}
 use Rattle.premium.specs.declared.Board.{Board}
 

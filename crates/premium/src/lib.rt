@@ -1,5 +1,7 @@
 // Made by tools/models.py from crates/entry/src/lib.rt: change that file.
 // The board of this model: its types, the walk along all lines, the frame summary, and the test of soundness.
+#![tactic(auto)]
+
 pub mod lines;
 pub mod lookup;
 pub mod range;
@@ -14,14 +16,14 @@ use lend::{Count, Place, Slot};
 use sizes::{PAGES, PLACES, SLOTS, SPACES};
 
 // The cache of translations: its places, and the next one to replace.
-#[derive(Drop)]
+#[derive(Clone, Copy)]
 pub struct Cache {
     pub places: [Place; PLACES],
     pub next: u8,
 }
 
 // What a search of the cache hands back: the cache, whether the page is in it, and the place that names the page.
-#[derive(Drop)]
+#[derive(Clone, Copy)]
 pub struct Found {
     pub cache: Cache,
     pub hit: bool,
@@ -29,7 +31,7 @@ pub struct Found {
 }
 
 // The slot of each page, space by space; which spaces are live; the cache; what ends at each frame.
-#[derive(Drop)]
+#[derive(Clone, Copy)]
 pub struct Board {
     pub slots: [Slot; SLOTS],
     pub live: [bool; SPACES],

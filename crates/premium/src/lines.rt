@@ -107,14 +107,14 @@ pub(crate) fn link_in(link: Link) -> u8
 }
 
 // What the walk along the line of one page finds: the frame at its end, 0 where there is none, and how many links lead to it.
-#[derive(Drop)]
+#[derive(Clone, Copy)]
 pub struct Lookup {
     pub frame: u8,
     pub links: u8,
 }
 
 // What a walk along all lines finds: whether each is of the right kind, and the frame at its end.
-#[derive(Drop)]
+#[derive(Clone, Copy)]
 pub struct Ends {
     pub rooted: bool,
     pub frames: [u8; SLOTS],

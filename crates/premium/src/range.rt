@@ -12,7 +12,7 @@ use crate::sizes::PAGES;
 const ONE_PAGE: u32 = 10;
 
 // What a range names: nothing, because it is invalid, or its first page and how many pages there are from it on.
-#[derive(Drop)]
+#[derive(Clone, Copy)]
 pub enum Range {
     Invalid,
     Pages(u32, u32),

@@ -113,7 +113,7 @@ fn places_fit(places: [Place; PLACES], rights: [u8; SLOTS], frames: [u8; SLOTS])
 }
 
 // What is found of the pages: whether they are sound, and if so the rights and the frame of each, and the counts of all frames.
-#[derive(Drop)]
+#[derive(Clone, Copy)]
 pub struct Pages {
     pub fit: bool,
     pub rights: [u8; SLOTS],
@@ -166,7 +166,7 @@ pub fn examine(slots: [Slot; SLOTS], live: [bool; SPACES]) -> Pages
 }
 
 // What the test of soundness finds: whether the board is sound, and the frames of its pages where they are.
-#[derive(Drop)]
+#[derive(Clone, Copy)]
 pub struct Checked {
     pub sound: bool,
     pub frames: [u8; SLOTS],

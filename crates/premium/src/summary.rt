@@ -56,7 +56,7 @@ fn counts_at(k: usize, rights: u8, frame: u8) -> usize
 }
 
 // The rights of each page, and the counts of all frames.
-#[derive(Drop)]
+#[derive(Clone, Copy)]
 pub struct Tallied {
     pub rights: [u8; SLOTS],
     pub counts: [Count; PAGES],

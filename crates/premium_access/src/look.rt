@@ -15,7 +15,7 @@ use premium as model;
 
 // What a look at a page finds: the next board, the page's frame, the links that were followed to it, and whether the page was in the
 // cache.
-#[derive(Drop)]
+#[derive(Clone, Copy)]
 pub struct Seen {
     pub board: Board,
     pub frame: u8,

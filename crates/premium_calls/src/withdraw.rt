@@ -17,7 +17,7 @@ use model::summary::losses;
 use premium as model;
 
 // A board from which rights were withdrawn, with the summary it had before, and what was lost.
-#[derive(Drop)]
+#[derive(Clone, Copy)]
 pub struct Cut {
     pub board: Board,
     pub lost: Count,

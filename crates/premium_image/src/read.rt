@@ -13,14 +13,14 @@ use model::{Board, Cache};
 use premium as model;
 
 // The slots that were read, and whether every one of them is a slot's bytes.
-#[derive(Drop)]
+#[derive(Clone, Copy)]
 struct SlotsRead {
     pub ok: bool,
     pub slots: [Slot; SLOTS],
 }
 
 // The live spaces that were read, and whether every byte is 0 or 1.
-#[derive(Drop)]
+#[derive(Clone, Copy)]
 struct LiveRead {
     pub ok: bool,
     pub live: [bool; SPACES],

@@ -19,7 +19,7 @@ use premium as model;
 use premium_calls as calls;
 
 // Slots from which rights were withdrawn, and what was lost.
-#[derive(Drop)]
+#[derive(Clone, Copy)]
 pub struct Cut {
     pub slots: [Slot; SLOTS],
     pub lost: Count,

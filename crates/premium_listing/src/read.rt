@@ -21,7 +21,7 @@ use text::Fields;
 use text::line::line_end;
 
 // What the reader answers: the number, and the board.
-#[derive(Drop)]
+#[derive(Clone, Copy)]
 pub struct Read {
     pub number: u32,
     pub board: Board,

@@ -17,7 +17,7 @@ use premium as model;
 use text::write::{put_held, put_live};
 
 // What the writer answers: the number, and how many bytes of listing stand at the buffer's start.
-#[derive(Drop)]
+#[derive(Clone, Copy)]
 pub struct Written {
     pub number: u32,
     pub length: usize,

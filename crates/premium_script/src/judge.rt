@@ -27,7 +27,7 @@ use text::Request;
 use text::line::{is_comment, parse};
 
 // What a line does: what it says, and the next board.
-#[derive(Drop)]
+#[derive(Clone, Copy)]
 pub struct Turned {
     pub board: Board,
     pub said: Said,

@@ -13,10 +13,8 @@ use lib.Dec.{ltb, leb}
 use borrow.Author.Tests.{lt-ltb, le-ltb, leb-true, leb-false, ltb-false}
 use Rattle.text.specs.declared.Numeral.{Numeral}
 use Rattle.text.specs.Decimal.{digit_byte, decimal, digit_of, no_numeral, numeral, first_digit, one_more_digit, number_at}
-use Rattle.text.specs.Write.{Wrote, last_position}
 use Rattle.text.proofs.Reading.{digit_within}
 use Rattle.text.proofs.Digits.{decimal_one, decimal_last, decimal_snoc}
-use Rattle.text.proofs.Writing.{wrote_there, wrote_next}
 
 -- the largest number that is read
 abbrev pub most_read : ℕ

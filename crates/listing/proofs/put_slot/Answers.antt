@@ -3,7 +3,6 @@ use Rattle.listing.proofs as own
 use Rattle.listing.specs as spec
 use spec.Listing.{slot_line}
 use Rattle.text.proofs.Writing.{wrote_none}
-use borrow.Author.Rules.{rules}
 use own.put_slot.Goals as goal
 
 pub returns-in-Nothing : goal.returns-in-Nothing

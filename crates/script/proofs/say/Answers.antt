@@ -3,7 +3,6 @@ use Rattle.script.proofs as own
 use Rattle.script.specs as spec
 use spec.Script.{said_line}
 use Rattle.text.proofs.Writing.{wrote_none}
-use borrow.Author.Rules.{rules}
 use own.say.Goals as goal
 
 pub returns-in-Silent : goal.returns-in-Silent

@@ -1,17 +1,7 @@
 -- `drop_lost` meets its contract: the goals that are left, from the invariant.
 use Rattle.entry.proofs as own
-use Rattle.entry.specs as spec
-use Prim.Native.Nat.{◌-◌}
-use mathlib.Core.Path.{◌≡◌, refl, ◌∙◌}
-use mathlib.Core.Logic.{⊎_elim}
-use borrow.Author.Rules.{rules}
-use lib.Dec.{lit<}
-use lib.ListN.{length}
-use Rattle.lend.specs.Sizes.{slot_count}
-use Rattle.lend_basics.proofs.Lists.{length_unmap}
-use Rattle.lend_code.proofs.Cache.{Dropping, dropping_none, dropping_yes, dropping_no, dropping_all}
-use Rattle.lend_code.proofs.Fits.{inside_in}
-use spec.Sizes.{sizes}
+use mathlib.Core.Path.{◌∙◌}
+use Rattle.lend_code.proofs.Cache.{dropping_yes, dropping_no, dropping_all}
 use own.Cache.drop_lost.Goals as goal
 use own.Cache.drop_lost.Goals.{then-k-lost, else-k-lost}
 

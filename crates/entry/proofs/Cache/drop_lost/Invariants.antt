@@ -2,15 +2,8 @@
 use Rattle.entry.proofs as own
 use Rattle.entry.specs as spec
 use Prim.Native.Nat.{◌-◌}
-use mathlib.Core.Path.{◌≡◌, refl, ◌∙◌}
-use mathlib.Core.Logic.{⊎_elim}
-use borrow.Author.Rules.{rules}
-use lib.Dec.{lit<}
-use lib.ListN.{length}
-use Rattle.lend.specs.Sizes.{slot_count}
-use Rattle.lend_basics.proofs.Lists.{length_unmap}
-use Rattle.lend_code.proofs.Cache.{Dropping, dropping_none, dropping_yes, dropping_no, dropping_all}
-use Rattle.lend_code.proofs.Fits.{inside_in}
+use mathlib.Core.Path.{◌≡◌}
+use Rattle.lend_code.proofs.Cache.{Dropping}
 use spec.Sizes.{sizes}
 use own.Cache.drop_lost.Given as goal
 

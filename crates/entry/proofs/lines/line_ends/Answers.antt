@@ -1,13 +1,9 @@
 -- `line_ends` meets its contract: the goals that are left, from the invariant.
 use Rattle.entry.proofs as own
 use Rattle.entry.specs as spec
-use Prim.Native.Nat.{◌-◌, ◌*◌, ◌+◌}
 use mathlib.Core.Path.{refl}
-use native.Mathlib.Omega.{arith}
-use borrow.Author.Rules.{rules}
 use lib.Dec.{lit<}
-use Rattle.lend.specs.Sizes.{slot_count}
-use Rattle.lend_code.proofs.Ends.{Ending, ending_none, ending_up, ending_fails, ending_next, ending_all, ended_not}
+use Rattle.lend_code.proofs.Ends.{ending_none, ending_up, ending_fails, ending_next, ending_all, ended_not}
 use spec.Sizes.{sizes}
 use own.lines.line_ends.Goals as goal
 

@@ -3,12 +3,8 @@
 use Rattle.entry.proofs as own
 use Rattle.entry.specs as spec
 use Prim.Native.Nat.{◌-◌, ◌*◌, ◌+◌}
-use mathlib.Core.Path.{refl}
-use native.Mathlib.Omega.{arith}
-use borrow.Author.Rules.{rules}
-use lib.Dec.{lit<}
 use Rattle.lend.specs.Sizes.{slot_count}
-use Rattle.lend_code.proofs.Ends.{Ending, ending_none, ending_up, ending_fails, ending_next, ending_all, ended_not}
+use Rattle.lend_code.proofs.Ends.{Ending}
 use spec.Sizes.{sizes}
 use own.lines.line_ends.Given as goal
 

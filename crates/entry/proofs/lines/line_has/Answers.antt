@@ -1,14 +1,7 @@
 -- `line_has` meets its contract: the goals that are left, from the invariant.
 use Rattle.entry.proofs as own
 use Rattle.entry.specs as spec
-use Prim.Native.Nat.{◌-◌, ◌*◌, ◌+◌, ◌<◌}
-use mathlib.Core.Path.{◌≡◌}
-use native.Mathlib.Omega.{arith}
-use borrow.Author.Rules.{rules}
-use lib.Dec.{lit<}
-use lib.ListN.{length}
-use Rattle.lend.specs.Sizes.{slot_count}
-use Rattle.lend_code.proofs.Walks.{Walking, walking_none, walking_next, walking_up, walking_all, walking_in}
+use Rattle.lend_code.proofs.Walks.{walking_next, walking_up, walking_all}
 use spec.Sizes.{sizes}
 use own.lines.line_has.Goals as goal
 

@@ -2,14 +2,9 @@
 -- the line of k, from the page at on, has the answer for k. The measure counts the lines left, and the pages left of this one.
 use Rattle.entry.proofs as own
 use Rattle.entry.specs as spec
-use Prim.Native.Nat.{◌-◌, ◌*◌, ◌+◌, ◌<◌}
-use mathlib.Core.Path.{◌≡◌}
-use native.Mathlib.Omega.{arith}
-use borrow.Author.Rules.{rules}
-use lib.Dec.{lit<}
-use lib.ListN.{length}
+use Prim.Native.Nat.{◌-◌, ◌*◌, ◌+◌}
 use Rattle.lend.specs.Sizes.{slot_count}
-use Rattle.lend_code.proofs.Walks.{Walking, walking_none, walking_next, walking_up, walking_all, walking_in}
+use Rattle.lend_code.proofs.Walks.{Walking}
 use spec.Sizes.{sizes}
 use own.lines.line_has.Given as goal
 

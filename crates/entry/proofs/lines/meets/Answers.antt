@@ -1,12 +1,8 @@
 -- `meets` meets its contract: the goals that are left, from the invariant.
 use Rattle.entry.proofs as own
 use Rattle.entry.specs as spec
-use borrow.Author.Rules.{rules}
-use mathlib.Core.Path.{◌≡◌}
-use lib.ListN.{length}
 use borrow.Author.Tests.{eq-eqb, ne_eqb}
-use Rattle.lend.specs.Sizes.{slot_count}
-use Rattle.lend_code.proofs.Climbs.{Climbing, climbing_none, climbing_out, climbing_end, climbing_hit, climbing_up}
+use Rattle.lend_code.proofs.Climbs.{climbing_out, climbing_end, climbing_hit, climbing_up}
 use spec.Sizes.{sizes}
 use own.lines.meets.Goals as goal
 

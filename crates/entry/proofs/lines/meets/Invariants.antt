@@ -1,12 +1,7 @@
 -- `meets` meets its contract. The invariant: what is left of the line, from the page at on, has the answer. The measure is what is left.
 use Rattle.entry.proofs as own
 use Rattle.entry.specs as spec
-use borrow.Author.Rules.{rules}
-use mathlib.Core.Path.{◌≡◌}
-use lib.ListN.{length}
-use borrow.Author.Tests.{eq-eqb, ne_eqb}
-use Rattle.lend.specs.Sizes.{slot_count}
-use Rattle.lend_code.proofs.Climbs.{Climbing, climbing_none, climbing_out, climbing_end, climbing_hit, climbing_up}
+use Rattle.lend_code.proofs.Climbs.{Climbing}
 use spec.Sizes.{sizes}
 use own.lines.meets.Given as goal
 

@@ -2,14 +2,7 @@
 -- with the links gone over as many links.
 use Rattle.entry.proofs as own
 use Rattle.entry.specs as spec
-use mathlib.Core.Path.{◌≡◌, ◌∙◌, ap}
-use Prim.Native.Nat.{ℕ, ◌+◌}
-use native.Mathlib.Omega.{arith}
-use borrow.Author.Rules.{rules}
-use lib.Dec.{lit<}
-use lib.ListN.{length}
-use Rattle.lend.specs.Sizes.{slot_count}
-use Rattle.lend_code.proofs.Access.{Climbing, climbing_none, climbing_ends, climbing_up, climbing_past, climbing_room}
+use Rattle.lend_code.proofs.Access.{Climbing}
 use spec.Sizes.{sizes}
 use own.lookup.lookup.Given as goal
 

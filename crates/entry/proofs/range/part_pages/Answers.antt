@@ -4,7 +4,6 @@ use Rattle.entry.specs as spec
 use native.Mathlib.Omega.{arith}
 use Rattle.lend_code.proofs.Ranges.{part_small, part_huge, part_large, part_fits}
 use spec.Sizes.{sizes}
-use borrow.Author.Rules.{rules}
 use own.range.part_pages.Goals as goal
 
 pub returns-then-size-lt-ONE_PAGE : goal.returns-then-size-lt-ONE_PAGE

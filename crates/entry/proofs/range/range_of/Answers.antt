@@ -1,12 +1,8 @@
 -- `range_of` meets its contract: its tests are those of the definition, in their order.
 use Rattle.entry.proofs as own
 use Rattle.entry.specs as spec
-use Prim.Native.Nat.{◌≤◌}
-use native.Mathlib.Nat.{mod-le}
-use native.Mathlib.Omega.{arith}
-use Rattle.lend_code.proofs.Ranges.{range_nil, range_complete, range_invalid, part_some, range_part}
+use Rattle.lend_code.proofs.Ranges.{range_nil, range_complete, range_invalid, range_part}
 use spec.Sizes.{sizes}
-use borrow.Author.Rules.{rules}
 use own.range.range_of.Goals as goal
 
 pub returns-then-base-size : goal.returns-then-base-size

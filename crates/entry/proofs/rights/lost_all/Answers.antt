@@ -1,17 +1,9 @@
 -- `lost_all` meets its contract: the goals that are left, from the invariant.
 use Rattle.entry.proofs as own
-use Rattle.entry.specs as spec
-use Prim.Native.Nat.{◌-◌, ◌≤◌}
-use mathlib.Core.Bool.{not, ◌&&◌}
-use mathlib.Core.Logic.{⊎_elim}
 use native.Mathlib.Omega.{arith}
 use borrow.Author.Rules.{rules}
-use lib.ListN.{get_or}
-use lib.Dec.{eqb}
-use Rattle.lend.specs.Sizes.{slot_count}
-use Rattle.lend_basics.proofs.Loops.{Counted, counted_none, counted_yes, counted_no, counted_all}
+use Rattle.lend_basics.proofs.Loops.{counted_none, counted_yes, counted_no, counted_all}
 use Rattle.lend_code.specs.Inner.{lost_all}
-use spec.Sizes.{sizes}
 use own.rights.lost_all.Goals as goal
 use own.rights.lost_all.Goals.{then-before-k, else-before-k}
 

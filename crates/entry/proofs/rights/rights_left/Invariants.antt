@@ -2,13 +2,10 @@
 use Rattle.entry.proofs as own
 use Rattle.entry.specs as spec
 use Prim.Native.Nat.{◌-◌}
-use mathlib.Core.Path.{◌≡◌, ◌∙◌}
-use native.Mathlib.Omega.{arith}
-use borrow.Author.Rules.{rules}
-use lib.ListN.{length, get_or}
+use lib.ListN.{get_or}
 use Rattle.lend.specs.Sizes.{slot_count}
-use Rattle.lend_basics.proofs.Loops.{Changed, changed_none, changed_more, changed_to}
-use Rattle.lend_code.specs.Inner.{has, left_of, rights_left}
+use Rattle.lend_basics.proofs.Loops.{Changed}
+use Rattle.lend_code.specs.Inner.{has, left_of}
 use spec.Sizes.{sizes}
 use own.rights.rights_left.Given as goal
 

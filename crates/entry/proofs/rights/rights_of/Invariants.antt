@@ -2,12 +2,9 @@
 use Rattle.entry.proofs as own
 use Rattle.entry.specs as spec
 use Prim.Native.Nat.{◌-◌}
-use mathlib.Core.Path.{refl}
-use borrow.Author.Rules.{rules}
 use Rattle.lend.specs.Sizes.{slot_count}
 use Rattle.lend.specs.Slots.{slot_at}
-use Rattle.lend_basics.proofs.Loops.{Built, built_none, built_more, built_all}
-use Rattle.lend_code.specs.Inner.{rights_of}
+use Rattle.lend_basics.proofs.Loops.{Built}
 use spec.Sizes.{sizes}
 use own.rights.rights_of.Given as goal
 

@@ -1,14 +1,11 @@
 -- `slots_with` meets its contract: the goals that are left, from the invariant.
 use Rattle.entry.proofs as own
 use Rattle.entry.specs as spec
-use Prim.Native.Nat.{◌-◌}
-use mathlib.Core.Path.{◌≡◌, ◌∙◌}
-use native.Mathlib.Omega.{arith}
+use mathlib.Core.Path.{◌≡◌}
 use borrow.Author.Rules.{rules}
-use lib.ListN.{length, get_or}
+use lib.ListN.{length}
 use Rattle.lend.specs.Sizes.{slot_count}
-use Rattle.lend.specs.Slots.{empty_slot, slot_at, with_rights}
-use Rattle.lend_basics.proofs.Loops.{Changed, changed_none, changed_more, changed_to}
+use Rattle.lend_basics.proofs.Loops.{changed_to}
 use Rattle.lend_code.specs.Inner.{slots_with}
 use spec.Sizes.{sizes}
 use own.rights.slots_with.Goals as goal

@@ -2,14 +2,10 @@
 use Rattle.entry.proofs as own
 use Rattle.entry.specs as spec
 use Prim.Native.Nat.{◌-◌}
-use mathlib.Core.Path.{◌≡◌, ◌∙◌}
-use native.Mathlib.Omega.{arith}
-use borrow.Author.Rules.{rules}
-use lib.ListN.{length, get_or}
+use lib.ListN.{get_or}
 use Rattle.lend.specs.Sizes.{slot_count}
 use Rattle.lend.specs.Slots.{empty_slot, slot_at, with_rights}
-use Rattle.lend_basics.proofs.Loops.{Changed, changed_none, changed_more, changed_to}
-use Rattle.lend_code.specs.Inner.{slots_with}
+use Rattle.lend_basics.proofs.Loops.{Changed}
 use spec.Sizes.{sizes}
 use own.rights.slots_with.Given as goal
 

@@ -1,11 +1,8 @@
 -- `only` meets its contract: one page is put into a set of none.
 use Rattle.entry.proofs as own
 use Rattle.entry.specs as spec
-use borrow.Author.Tests.{lt-ltb}
-use mathlib.Core.Path.{◌∙◌}
 use Rattle.lend_code.proofs.Sets.{only_set, only_none}
 use spec.Sizes.{sizes}
-use borrow.Author.Rules.{rules}
 use own.sets.only.Goals as goal
 
 pub returns-then-y-lt-SLOTS : goal.returns-then-y-lt-SLOTS

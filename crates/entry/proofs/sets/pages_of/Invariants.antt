@@ -3,13 +3,10 @@ use Rattle.entry.proofs as own
 use Rattle.entry.specs as spec
 use Prim.Native.Nat.{◌-◌}
 use mathlib.Core.Bool.{false}
-use mathlib.Core.Path.{refl}
 use lib.Dec.{eqb}
 use Rattle.lend.specs.Sizes.{slot_count, space_of}
-use Rattle.lend_basics.proofs.Loops.{Built, built_none, built_more, built_all}
-use Rattle.lend_code.specs.Inner.{space_pages}
+use Rattle.lend_basics.proofs.Loops.{Built}
 use spec.Sizes.{sizes}
-use borrow.Author.Rules.{rules}
 use own.sets.pages_of.Given as goal
 
 abbrev pub invariant-loop-k : goal.invariant-loop-k

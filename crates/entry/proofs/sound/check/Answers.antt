@@ -1,7 +1,7 @@
 -- `check` meets its contract: the pages first, and then what the cache and the summary are held against.
 use Rattle.entry.proofs as own
 use Rattle.entry.specs as spec
-use mathlib.Core.Path.{◌≡◌, sym, ◌∙◌}
+use mathlib.Core.Path.{sym, ◌∙◌}
 use borrow.Author.Tests.{not-true, not-false}
 use borrow.Author.Rules.{rules}
 use Rattle.lend.specs.Tables.{Shaped}

@@ -1,18 +1,14 @@
 -- `places_fit` meets its contract: the goals that are left, from the invariant.
 use Rattle.entry.proofs as own
 use Rattle.entry.specs as spec
-use Prim.Native.Nat.{◌-◌}
 use mathlib.Core.Path.{◌≡◌, sym, ◌∙◌}
 use mathlib.Core.Bool.{◌&&◌, ◌||◌}
-use lib.Dec.{eqb, lit<}
-use borrow.Author.Tests.{not-true, not-false}
+use lib.Dec.{eqb}
 use Rattle.lend.specs.Cache.{place_at}
-use Rattle.lend_basics.proofs.Loops.{Tested, tested_none, tested_more}
+use Rattle.lend_basics.proofs.Loops.{tested_none, tested_more}
 use Rattle.lend_code.specs.Inner.{place_ok}
-use Rattle.lend_code.proofs.Fits.{inside_in}
 use Rattle.lend_code.proofs.SoundCode.{place_tested, places_not, places_all}
 use spec.Sizes.{sizes}
-use borrow.Author.Rules.{rules}
 use own.sound.places_fit.Goals as goal
 
 pub loop-i-init : goal.loop-i-init

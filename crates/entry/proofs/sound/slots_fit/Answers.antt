@@ -1,20 +1,13 @@
 -- `slots_fit` meets its contract: the goals that are left, from the invariant.
 use Rattle.entry.proofs as own
 use Rattle.entry.specs as spec
-use Prim.Native.Nat.{ℕ, ◌-◌, ◌<◌}
-use mathlib.Core.Path.{◌≡◌, refl, sym, ap, ◌∙◌}
-use mathlib.Core.Bool.{true}
-use native.Mathlib.Omega.{arith}
-use borrow.Author.Tests.{not-true, not-false}
+use mathlib.Core.Path.{◌≡◌, sym, ◌∙◌}
 use Rattle.lend.specs.Sizes.{slot_count}
-use Rattle.lend.specs.Lists.{every}
 use Rattle.lend.specs.Slots.{slot_at}
 use Rattle.lend.specs.SoundTest.{slot_test}
-use Rattle.lend_basics.proofs.Loops.{Tested, tested_none, tested_more, tested_not, tested_all}
-use Rattle.lend_code.proofs.Fits.{link_fits_law, inside_in}
-use lib.Dec.{lit<}
+use Rattle.lend_basics.proofs.Loops.{tested_none, tested_more, tested_not, tested_all}
+use Rattle.lend_code.proofs.Fits.{link_fits_law}
 use spec.Sizes.{sizes}
-use borrow.Author.Rules.{rules}
 use own.sound.slots_fit.Goals as goal
 
 pub loop-k-init : goal.loop-k-init
@@ -26,7 +19,7 @@ unfolding slot_test
 returns-then-not-slot_fits c =
     let s = slot_at c.args.slots c.loop-k.k in
     let tested : c.slot_fits.result ≡ slot_test sizes c.args.live (slot_at c.args.slots) c.loop-k.k =
-        cc (link_fits_law sizes c.args.live (slot_at c.args.slots) c.loop-k.k s.rights s.link) in
+    cc (link_fits_law sizes c.args.live (slot_at c.args.slots) c.loop-k.k s.rights s.link) in
     sym (tested_not _ (slot_count sizes) c.loop-k.k c.loop-k-test.true (sym tested ∙ c.if-not-slot_fits.true))
 
 pub loop-k-preserved : goal.loop-k-preserved
@@ -34,7 +27,7 @@ unfolding slot_test
 loop-k-preserved c =
     let s = slot_at c.args.slots c.loop-k.k in
     let tested : c.slot_fits.result ≡ slot_test sizes c.args.live (slot_at c.args.slots) c.loop-k.k =
-        cc (link_fits_law sizes c.args.live (slot_at c.args.slots) c.loop-k.k s.rights s.link) in
+    cc (link_fits_law sizes c.args.live (slot_at c.args.slots) c.loop-k.k s.rights s.link) in
     tested_more _ _ c.loop-k.invariant (sym tested ∙ c.if-not-slot_fits.false)
 
 pub returns : goal.returns

@@ -1,20 +1,12 @@
 -- `slots_fit` meets its contract. The invariant: every page before k fits. One that does not settles the answer.
 use Rattle.entry.proofs as own
 use Rattle.entry.specs as spec
-use Prim.Native.Nat.{ℕ, ◌-◌, ◌<◌}
-use mathlib.Core.Path.{◌≡◌, refl, sym, ap, ◌∙◌}
-use mathlib.Core.Bool.{true}
-use native.Mathlib.Omega.{arith}
-use borrow.Author.Tests.{not-true, not-false}
+use Prim.Native.Nat.{◌-◌}
 use Rattle.lend.specs.Sizes.{slot_count}
-use Rattle.lend.specs.Lists.{every}
 use Rattle.lend.specs.Slots.{slot_at}
 use Rattle.lend.specs.SoundTest.{slot_test}
-use Rattle.lend_basics.proofs.Loops.{Tested, tested_none, tested_more, tested_not, tested_all}
-use Rattle.lend_code.proofs.Fits.{link_fits_law, inside_in}
-use lib.Dec.{lit<}
+use Rattle.lend_basics.proofs.Loops.{Tested}
 use spec.Sizes.{sizes}
-use borrow.Author.Rules.{rules}
 use own.sound.slots_fit.Given as goal
 
 abbrev pub invariant-loop-k : goal.invariant-loop-k

@@ -1,7 +1,6 @@
 -- `sound` meets its contract: it is what the check tells.
 use Rattle.entry.proofs as own
 use Rattle.entry.specs as spec
-use borrow.Author.Rules.{rules}
 use Rattle.lend_sound.proofs.SoundTest.{tells}
 use spec.Sizes.{sizes}
 use spec.Board.{tables}

@@ -2,7 +2,6 @@
 use Rattle.entry.proofs as own
 use mathlib.Core.Path.{ap, ◌∙◌}
 use mathlib.Core.Bool.{Bool}
-use borrow.Author.Rules.{rules}
 use Rattle.lend_code.specs.Inner.{more_in16, counted_in16}
 use own.summary.counted.Goals as goal
 

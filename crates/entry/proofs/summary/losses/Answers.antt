@@ -1,11 +1,9 @@
 -- `losses` meets its contract: the goals that are left, from the invariant.
 use Rattle.entry.proofs as own
 use Rattle.entry.specs as spec
-use Prim.Native.Nat.{◌-◌, ◌≤◌}
 use native.Mathlib.Omega.{arith}
 use borrow.Author.Rules.{rules}
-use Rattle.lend.specs.Sizes.{slot_count}
-use Rattle.lend_code.proofs.Summary.{Losing, bit_small, losing_none, losing_more, losing_all}
+use Rattle.lend_code.proofs.Summary.{losing_none, losing_more, losing_all}
 use spec.Sizes.{sizes}
 use own.summary.losses.Goals as goal
 

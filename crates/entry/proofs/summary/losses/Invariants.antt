@@ -2,10 +2,8 @@
 use Rattle.entry.proofs as own
 use Rattle.entry.specs as spec
 use Prim.Native.Nat.{◌-◌, ◌≤◌}
-use native.Mathlib.Omega.{arith}
-use borrow.Author.Rules.{rules}
 use Rattle.lend.specs.Sizes.{slot_count}
-use Rattle.lend_code.proofs.Summary.{Losing, bit_small, losing_none, losing_more, losing_all}
+use Rattle.lend_code.proofs.Summary.{Losing}
 use spec.Sizes.{sizes}
 use own.summary.losses.Given as goal
 

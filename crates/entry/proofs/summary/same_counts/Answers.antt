@@ -1,14 +1,9 @@
 -- `same_counts` meets its contract: the goals that are left, from the invariant.
 use Rattle.entry.proofs as own
 use Rattle.entry.specs as spec
-use Prim.Native.Nat.{◌-◌}
-use mathlib.Core.Path.{◌≡◌, refl, sym, ap, ◌∙◌}
-use native.Mathlib.Omega.{arith}
+use mathlib.Core.Path.{◌≡◌, sym, ◌∙◌}
 use lib.ListN.{length}
-use borrow.Author.Tests.{eq-eqb, not-true, not-false}
-use Rattle.lend.specs.Summary.{count_at}
-use Rattle.lend.specs.SoundTest.{same_count}
-use Rattle.lend_basics.proofs.Loops.{Tested, tested_none, tested_more}
+use Rattle.lend_basics.proofs.Loops.{tested_none, tested_more}
 use Rattle.lend_basics.proofs.Lists.{length_unmap}
 use Rattle.lend_code.proofs.Summary.{counts_not, counts_all}
 use spec.Sizes.{sizes}

@@ -2,17 +2,10 @@
 use Rattle.entry.proofs as own
 use Rattle.entry.specs as spec
 use Prim.Native.Nat.{◌-◌}
-use mathlib.Core.Path.{◌≡◌, refl, sym, ap, ◌∙◌}
-use native.Mathlib.Omega.{arith}
-use lib.ListN.{length}
-use borrow.Author.Tests.{eq-eqb, not-true, not-false}
 use Rattle.lend.specs.Summary.{count_at}
 use Rattle.lend.specs.SoundTest.{same_count}
-use Rattle.lend_basics.proofs.Loops.{Tested, tested_none, tested_more}
-use Rattle.lend_basics.proofs.Lists.{length_unmap}
-use Rattle.lend_code.proofs.Summary.{counts_not, counts_all}
+use Rattle.lend_basics.proofs.Loops.{Tested}
 use spec.Sizes.{sizes}
-use borrow.Author.Rules.{rules}
 use own.summary.same_counts.Given as goal
 
 abbrev pub invariant-loop-i : goal.invariant-loop-i

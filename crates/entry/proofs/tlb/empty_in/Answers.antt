@@ -1,14 +1,13 @@
 -- `empty_in` meets its contract: the goals that are left, from the invariant.
 use Rattle.entry.proofs as own
 use Rattle.entry.specs as spec
-use Prim.Native.Nat.{◌-◌}
 use mathlib.Core.Path.{◌≡◌, sym, ap, ◌∙◌}
 use mathlib.Core.Bool.{not}
 use native.Mathlib.Omega.{arith}
 use borrow.Author.Rules.{rules}
 use lib.ListN.{length}
-use Rattle.lend.specs.Cache.{filled, empty_in}
-use Rattle.lend_code.proofs.Cache.{Missed, missed_none, missed_more, lowest_found, lowest_none}
+use Rattle.lend.specs.Cache.{empty_in}
+use Rattle.lend_code.proofs.Cache.{lowest_found, lowest_none}
 use spec.Sizes.{sizes}
 use own.tlb.empty_in.Goals as goal
 

@@ -3,7 +3,6 @@ use Rattle.entry.proofs as own
 use Rattle.entry.specs as spec
 use Prim.Native.Nat.{◌+◌}
 use native.Mathlib.Omega.{arith}
-use borrow.Author.Rules.{rules}
 use borrow.Author.Tests.{lt-ltb, le-ltb}
 use Rattle.lend_code.specs.Access.{place_after}
 use spec.Sizes.{sizes}

@@ -1,13 +1,12 @@
 -- `place_for` meets its contract: the goals that are left, from the invariant.
 use Rattle.entry.proofs as own
 use Rattle.entry.specs as spec
-use Prim.Native.Nat.{◌-◌}
 use mathlib.Core.Path.{◌≡◌, sym, ◌∙◌}
 use native.Mathlib.Omega.{arith}
 use borrow.Author.Rules.{rules}
 use lib.ListN.{length}
-use Rattle.lend.specs.Cache.{names, place_for}
-use Rattle.lend_code.proofs.Cache.{Missed, missed_none, missed_more, lowest_found, lowest_none}
+use Rattle.lend.specs.Cache.{place_for}
+use Rattle.lend_code.proofs.Cache.{lowest_found, lowest_none}
 use spec.Sizes.{sizes}
 use own.tlb.place_for.Goals as goal
 

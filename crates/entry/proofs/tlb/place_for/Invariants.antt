@@ -2,12 +2,8 @@
 use Rattle.entry.proofs as own
 use Rattle.entry.specs as spec
 use Prim.Native.Nat.{◌-◌}
-use mathlib.Core.Path.{◌≡◌, sym, ◌∙◌}
-use native.Mathlib.Omega.{arith}
-use borrow.Author.Rules.{rules}
-use lib.ListN.{length}
-use Rattle.lend.specs.Cache.{names, place_for}
-use Rattle.lend_code.proofs.Cache.{Missed, missed_none, missed_more, lowest_found, lowest_none}
+use Rattle.lend.specs.Cache.{names}
+use Rattle.lend_code.proofs.Cache.{Missed}
 use spec.Sizes.{sizes}
 use own.tlb.place_for.Given as goal
 

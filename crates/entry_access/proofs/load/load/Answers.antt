@@ -2,7 +2,6 @@
 use Rattle.entry_access.proofs as own
 use Rattle.entry_access.specs as spec
 use native.Mathlib.Omega.{arith}
-use borrow.Author.Rules.{rules}
 use Rattle.lend_code.proofs.Access.{Accessible, load_refused, load_shows, load_long, load_done}
 use Rattle.entry.specs.Sizes.{sizes}
 use Rattle.entry.specs.Board.{tables}

@@ -2,12 +2,8 @@
 use Rattle.entry_access.proofs as own
 use mathlib.Core.Path.{◌≡◌, ap, ◌∙◌}
 use mathlib.Core.Bool.{false}
-use lib.Dec.{lit<}
-use native.Mathlib.Omega.{arith}
-use borrow.Author.Rules.{rules}
 use Rattle.lend.specs.declared.Place.{Place}
 use Rattle.lend.specs.Slots.{slot_at}
-use Rattle.lend_code.proofs.Fits.{inside_in}
 use Rattle.lend_code.proofs.Access.{look_hit, look_miss}
 use Rattle.entry.specs.declared.Found.{Found}
 use Rattle.entry.specs.Sizes.{sizes}

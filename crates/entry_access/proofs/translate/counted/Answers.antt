@@ -1,6 +1,5 @@
 -- `counted` meets its contract: a hit follows the line, a miss has the links already.
 use Rattle.entry_access.proofs as own
-use borrow.Author.Rules.{rules}
 use Rattle.lend_code.proofs.Access.{counted_hit, counted_miss}
 use Rattle.entry.specs.Sizes.{sizes}
 use own.translate.counted.Goals as goal

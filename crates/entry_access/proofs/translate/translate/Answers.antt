@@ -1,7 +1,6 @@
 -- `translate` meets its contract: what the number 0 has shown makes the look at the page that of the rules.
 use Rattle.entry_access.proofs as own
 use native.Mathlib.Omega.{arith}
-use borrow.Author.Rules.{rules}
 use Rattle.lend_code.proofs.Access.{Accessible, translate_refused, translate_shows, translate_done}
 use Rattle.entry.specs.Sizes.{sizes}
 use Rattle.entry.specs.Board.{tables}

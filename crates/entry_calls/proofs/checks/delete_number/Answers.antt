@@ -1,7 +1,6 @@
 -- `delete_number` meets its contract: the tests are the cases, in their order.
 use Rattle.entry_calls.proofs as own
 use Rattle.lend.specs.Calls.{cases}
-use borrow.Author.Rules.{rules}
 use own.checks.delete_number.Goals as goal
 
 pub returns : goal.returns

@@ -3,7 +3,6 @@ use Rattle.entry_calls.proofs as own
 use mathlib.Core.Path.{◌∙◌}
 use Rattle.lend_code.proofs.Calls.{call_refused, create_shows, create_done}
 use Rattle.entry.specs.Sizes.{sizes}
-use borrow.Author.Rules.{rules}
 use own.create.create.Goals as goal
 
 pub returns-then-number-ne0 : goal.returns-then-number-ne0

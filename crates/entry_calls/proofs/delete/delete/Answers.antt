@@ -15,7 +15,6 @@ use Rattle.lend_code.proofs.Withdrawals.{withdrawn_made, cut_counts}
 use Rattle.lend_code.proofs.Calls.{call_refused, call_sound, call_judged, delete_shows, delete_done}
 use Rattle.entry.specs.Sizes.{sizes}
 use Rattle.entry.specs.Board.{tables}
-use borrow.Author.Rules.{rules}
 use own.delete.delete.Goals as goal
 
 -- the check tells whether the board is sound

@@ -13,7 +13,6 @@ use Rattle.lend_code.proofs.Withdrawals.{withdrawn_at}
 use Rattle.lend_code.proofs.Calls.{call_refused, page_checked, flush_number, flush_shows, flush_done}
 use Rattle.entry.specs.Sizes.{sizes}
 use Rattle.entry.specs.Board.{tables}
-use borrow.Author.Rules.{rules}
 use own.flush.flush_page.Goals as goal
 
 -- the number is the one of the rules

@@ -1,7 +1,6 @@
 -- `flush_range` meets its contract: the goals that are left, from the invariant.
 use Rattle.entry_calls.proofs as own
-use Rattle.entry_calls.specs as spec
-use Prim.Native.Nat.{◌-◌, ◌≤◌}
+use Prim.Native.Nat.{◌-◌}
 use mathlib.Core.Path.{◌≡◌, ◌∙◌}
 use native.Mathlib.Nat.{sub_self}
 use native.Mathlib.Omega.{arith}
@@ -9,10 +8,9 @@ use borrow.Author.Rules.{rules}
 use lib.Dec.{lit<}
 use Rattle.lend.specs.Tables.{alone}
 use Rattle.lend.specs.Ranges.{FlushRange, range_number, range_pages}
-use Rattle.lend_code.proofs.RangeLoop.{Going, going_none, going_more, range_refused_law, range_shows, range_done_law, first_in_law, count_in_law, flush_range_number, flush_range_pages, flush_range_call}
+use Rattle.lend_code.proofs.RangeLoop.{going_none, going_more, range_refused_law, range_shows, range_done_law, first_in_law, count_in_law, flush_range_number, flush_range_pages, flush_range_call}
 use Rattle.entry.specs.Sizes.{sizes}
 use Rattle.entry.specs.Board.{tables}
-use spec.RangeAnswer.{range_outcome}
 use own.flush_range.flush_range.Goals as goal
 
 -- the number of the first checks is the one of the rules

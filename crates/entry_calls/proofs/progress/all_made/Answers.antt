@@ -1,7 +1,6 @@
 -- `all_made` meets its contract: the code is the definition, call by call.
 use Rattle.entry_calls.proofs as own
 use Rattle.lend_code.specs.Ranges.{all_made}
-use borrow.Author.Rules.{rules}
 use own.progress.all_made.Goals as goal
 
 pub returns : goal.returns

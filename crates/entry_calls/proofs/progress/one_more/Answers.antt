@@ -1,6 +1,5 @@
 -- `one_more` meets its contract: each branch returns the arm of `cond` that its test picks.
 use Rattle.entry_calls.proofs as own
-use borrow.Author.Rules.{rules}
 use borrow.Author.Tests.{lt-ltb, le-ltb}
 use Rattle.lend_code.specs.Ranges.{one_more}
 use own.progress.one_more.Goals as goal

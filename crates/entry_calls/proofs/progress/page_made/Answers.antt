@@ -1,7 +1,6 @@
 -- `page_made` meets its contract: the code is the definition, field by field.
 use Rattle.entry_calls.proofs as own
 use Rattle.lend_code.specs.Ranges.{made_one}
-use borrow.Author.Rules.{rules}
 use own.progress.page_made.Goals as goal
 
 pub returns : goal.returns

@@ -4,7 +4,6 @@ use mathlib.Core.Path.{refl}
 use Rattle.lend.specs.Lists.{tabulate_from}
 use Rattle.lend_code.proofs.Sets.{start_made}
 use Rattle.entry.specs.Sizes.{sizes}
-use borrow.Author.Rules.{rules}
 use own.start.start.Goals as goal
 
 pub returns : goal.returns

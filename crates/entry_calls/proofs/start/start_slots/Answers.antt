@@ -1,12 +1,8 @@
 -- `start_slots` meets its contract: the goals that are left, from the invariant.
 use Rattle.entry_calls.proofs as own
-use Prim.Native.Nat.{◌-◌}
-use Rattle.lend_basics.proofs.Loops.{changed_more}
-use Rattle.lend_code.proofs.Sets.{Framed, framed_none, frame_starts, framed_all}
+use Rattle.lend_code.proofs.Sets.{framed_none, framed_all}
 use Rattle.entry.specs.Sizes.{sizes}
 use native.Mathlib.Omega.{arith}
-use Prim.Native.Nat.{◌≤◌}
-use borrow.Author.Rules.{rules}
 use own.start.start_slots.Goals as goal
 
 pub loop-k-init : goal.loop-k-init

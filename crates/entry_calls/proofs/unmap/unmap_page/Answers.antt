@@ -15,7 +15,6 @@ use Rattle.lend_code.proofs.Withdrawals.{withdrawn_at}
 use Rattle.lend_code.proofs.Calls.{call_refused, page_checked, unmap_number, unmap_shows, unmap_done, named_in}
 use Rattle.entry.specs.Sizes.{sizes}
 use Rattle.entry.specs.Board.{tables}
-use borrow.Author.Rules.{rules}
 use own.unmap.unmap_page.Goals as goal
 
 pub returns-then-number-ne0 : goal.returns-then-number-ne0

@@ -3,7 +3,6 @@ use Rattle.entry_calls.proofs as own
 use Rattle.lend_code.proofs.Withdrawals.{cut_made, lost_made}
 use Rattle.entry.specs.Sizes.{sizes}
 use Rattle.entry.specs.Board.{tables}
-use borrow.Author.Rules.{rules}
 use own.withdraw.taken_from.Goals as goal
 
 pub returns : goal.returns

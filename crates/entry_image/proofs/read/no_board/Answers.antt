@@ -2,7 +2,6 @@
 use Rattle.entry_image.proofs as own
 use Rattle.image.proofs.Image.{no_board_made}
 use Rattle.entry.specs.Sizes.{sizes}
-use borrow.Author.Rules.{rules}
 use own.read.no_board.Goals as goal
 
 pub returns : goal.returns

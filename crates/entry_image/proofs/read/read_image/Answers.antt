@@ -1,9 +1,7 @@
 -- `read_image` meets its contract: the tests are those of an image, and the parts are read one by one.
 use Rattle.entry_image.proofs as own
-use borrow.Author.Tests.{not-true, not-false}
 use Rattle.image.proofs.Image.{board_short, board_bad, board_good}
 use Rattle.entry.specs.Sizes.{sizes}
-use borrow.Author.Rules.{rules}
 use own.read.read_image.Goals as goal
 
 pub returns-then-image-ne-IMAGE : goal.returns-then-image-ne-IMAGE

@@ -1,15 +1,10 @@
 -- `read_live` meets its contract: the goals that are left, from the invariant.
 use Rattle.entry_image.proofs as own
-use Prim.Native.Nat.{◌+◌, ◌-◌, ◌≤◌}
 use mathlib.Core.Path.{refl}
 use native.Mathlib.Omega.{arith}
-use Rattle.entry.specs.Sizes.{sizes}
-use lib.Dec.{eqb, leb}
-use mathlib.Core.Bool.{false}
-use Rattle.lend_basics.proofs.Loops.{Built, built_none, built_more, built_all}
-use Rattle.image.specs.Image.{byte_at, live_from, live_reads, live_in}
-use Rattle.image.proofs.Flags.{Flagged, flag_none, flag_more, flag_all}
-use borrow.Author.Rules.{rules}
+use Rattle.lend_basics.proofs.Loops.{built_none, built_more, built_all}
+use Rattle.image.specs.Image.{live_reads, live_in}
+use Rattle.image.proofs.Flags.{flag_none, flag_more, flag_all}
 use own.read.read_live.Goals as goal
 
 pub loop-s-init : goal.loop-s-init

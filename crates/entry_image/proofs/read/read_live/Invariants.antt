@@ -1,15 +1,12 @@
 -- `read_live` meets its contract. The invariant: the first s live bytes are read, and the flag tells whether all of them are 0 or 1.
 use Rattle.entry_image.proofs as own
 use Prim.Native.Nat.{◌+◌, ◌-◌, ◌≤◌}
-use mathlib.Core.Path.{refl}
-use native.Mathlib.Omega.{arith}
 use Rattle.entry.specs.Sizes.{sizes}
 use lib.Dec.{eqb, leb}
 use mathlib.Core.Bool.{false}
-use Rattle.lend_basics.proofs.Loops.{Built, built_none, built_more, built_all}
-use Rattle.image.specs.Image.{byte_at, live_from, live_reads, live_in}
-use Rattle.image.proofs.Flags.{Flagged, flag_none, flag_more, flag_all}
-use borrow.Author.Rules.{rules}
+use Rattle.lend_basics.proofs.Loops.{Built}
+use Rattle.image.specs.Image.{byte_at, live_from}
+use Rattle.image.proofs.Flags.{Flagged}
 use own.read.read_live.Given as goal
 
 abbrev pub invariant-loop-s : goal.invariant-loop-s

@@ -1,13 +1,10 @@
 -- `read_places` meets its contract. The invariant: the first i places are read.
 use Rattle.entry_image.proofs as own
 use Prim.Native.Nat.{◌+◌, ◌*◌, ◌-◌, ◌≤◌}
-use mathlib.Core.Path.{refl}
-use native.Mathlib.Omega.{arith}
 use Rattle.entry.specs.Sizes.{sizes}
 use Rattle.lend.specs.Cache.{empty_place}
-use Rattle.lend_basics.proofs.Loops.{Built, built_none, built_more, built_all}
-use Rattle.image.specs.Image.{place_in, cache_from, places_in}
-use borrow.Author.Rules.{rules}
+use Rattle.lend_basics.proofs.Loops.{Built}
+use Rattle.image.specs.Image.{place_in, cache_from}
 use own.read.read_places.Given as goal
 
 abbrev pub invariant-loop-i : goal.invariant-loop-i

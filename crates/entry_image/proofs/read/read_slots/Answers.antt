@@ -1,15 +1,10 @@
 -- `read_slots` meets its contract: the goals that are left, from the invariant.
 use Rattle.entry_image.proofs as own
-use Prim.Native.Nat.{◌*◌, ◌-◌, ◌≤◌}
 use mathlib.Core.Path.{refl}
 use native.Mathlib.Omega.{arith}
-use Rattle.entry.specs.Sizes.{sizes}
-use Rattle.lend.specs.Sizes.{slot_count}
-use Rattle.lend.specs.Slots.{empty_slot}
-use Rattle.lend_basics.proofs.Loops.{Built, built_none, built_more, built_all}
-use Rattle.image.specs.Image.{slot_reads, slot_in, slots_read, slots_in}
-use Rattle.image.proofs.Flags.{Flagged, flag_none, flag_more, flag_all}
-use borrow.Author.Rules.{rules}
+use Rattle.lend_basics.proofs.Loops.{built_none, built_more, built_all}
+use Rattle.image.specs.Image.{slots_read, slots_in}
+use Rattle.image.proofs.Flags.{flag_none, flag_more, flag_all}
 use own.read.read_slots.Goals as goal
 
 pub loop-k-init : goal.loop-k-init

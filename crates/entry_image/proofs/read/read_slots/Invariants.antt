@@ -1,15 +1,12 @@
 -- `read_slots` meets its contract. The invariant: the first k slots are read, and the flag tells whether all of them read.
 use Rattle.entry_image.proofs as own
 use Prim.Native.Nat.{◌*◌, ◌-◌, ◌≤◌}
-use mathlib.Core.Path.{refl}
-use native.Mathlib.Omega.{arith}
 use Rattle.entry.specs.Sizes.{sizes}
 use Rattle.lend.specs.Sizes.{slot_count}
 use Rattle.lend.specs.Slots.{empty_slot}
-use Rattle.lend_basics.proofs.Loops.{Built, built_none, built_more, built_all}
-use Rattle.image.specs.Image.{slot_reads, slot_in, slots_read, slots_in}
-use Rattle.image.proofs.Flags.{Flagged, flag_none, flag_more, flag_all}
-use borrow.Author.Rules.{rules}
+use Rattle.lend_basics.proofs.Loops.{Built}
+use Rattle.image.specs.Image.{slot_reads, slot_in}
+use Rattle.image.proofs.Flags.{Flagged}
 use own.read.read_slots.Given as goal
 
 abbrev pub invariant-loop-k : goal.invariant-loop-k

@@ -1,13 +1,7 @@
 -- `read_summary` meets its contract: the goals that are left, from the invariant.
 use Rattle.entry_image.proofs as own
-use Prim.Native.Nat.{◌+◌, ◌*◌, ◌-◌, ◌≤◌}
-use mathlib.Core.Path.{refl}
-use native.Mathlib.Omega.{arith}
-use Rattle.entry.specs.Sizes.{sizes}
-use Rattle.lend.specs.Summary.{no_count}
-use Rattle.lend_basics.proofs.Loops.{Built, built_none, built_more, built_all}
-use Rattle.image.specs.Image.{count_in, summary_from, summary_in}
-use borrow.Author.Rules.{rules}
+use Rattle.lend_basics.proofs.Loops.{built_all}
+use Rattle.image.specs.Image.{summary_in}
 use own.read.read_summary.Goals as goal
 
 pub returns : goal.returns

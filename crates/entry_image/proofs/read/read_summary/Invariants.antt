@@ -1,13 +1,10 @@
 -- `read_summary` meets its contract. The invariant: the first i counts are read.
 use Rattle.entry_image.proofs as own
 use Prim.Native.Nat.{◌+◌, ◌*◌, ◌-◌, ◌≤◌}
-use mathlib.Core.Path.{refl}
-use native.Mathlib.Omega.{arith}
 use Rattle.entry.specs.Sizes.{sizes}
 use Rattle.lend.specs.Summary.{no_count}
-use Rattle.lend_basics.proofs.Loops.{Built, built_none, built_more, built_all}
-use Rattle.image.specs.Image.{count_in, summary_from, summary_in}
-use borrow.Author.Rules.{rules}
+use Rattle.lend_basics.proofs.Loops.{Built}
+use Rattle.image.specs.Image.{count_in, summary_from}
 use own.read.read_summary.Given as goal
 
 abbrev pub invariant-loop-i : goal.invariant-loop-i

@@ -1,9 +1,7 @@
 -- `write_image` meets its contract: the parts are written one after the other, which is the whole image.
 use Rattle.entry_image.proofs as own
-use mathlib.Core.Path.{◌∙◌}
 use Rattle.lend.specs.Tables.{Shaped}
 use Rattle.lend_basics.proofs.Lists.{length_unmap}
-use lib.ListN.{length-set}
 use Rattle.image.proofs.Put.{put_image, put_nothing}
 use Rattle.entry.specs.Sizes.{sizes}
 use Rattle.entry.specs.Board.{tables}

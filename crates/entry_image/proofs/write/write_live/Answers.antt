@@ -1,15 +1,9 @@
 -- `write_live` meets its contract: the goals that are left, from the invariant.
 use Rattle.entry_image.proofs as own
 use Rattle.lend.specs.Tables.{alive}
-use Prim.Native.Nat.{◌-◌, ◌≤◌}
 use mathlib.Core.Path.{refl}
 use native.Mathlib.Omega.{arith}
-use Rattle.entry.specs.Sizes.{sizes}
-use mathlib.Core.List.{map}
-use Rattle.image.specs.Image.{live_byte, live_from}
-use Rattle.image.specs.Put.{PutTo}
-use Rattle.image.proofs.Put.{put_none, put_live, live_cast, put_as}
-use borrow.Author.Rules.{rules}
+use Rattle.image.proofs.Put.{put_live, live_cast}
 use own.write.write_live.Goals as goal
 
 pub loop-s-preserved : goal.loop-s-preserved

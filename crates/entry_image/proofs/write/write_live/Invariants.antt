@@ -1,15 +1,10 @@
 -- `write_live` meets its contract. The invariant: the first s live bytes are written, and all else is as it was.
 use Rattle.entry_image.proofs as own
-use Rattle.lend.specs.Tables.{alive}
 use Prim.Native.Nat.{◌-◌, ◌≤◌}
-use mathlib.Core.Path.{refl}
-use native.Mathlib.Omega.{arith}
 use Rattle.entry.specs.Sizes.{sizes}
 use mathlib.Core.List.{map}
 use Rattle.image.specs.Image.{live_byte, live_from}
 use Rattle.image.specs.Put.{PutTo}
-use Rattle.image.proofs.Put.{put_none, put_live, live_cast, put_as}
-use borrow.Author.Rules.{rules}
 use own.write.write_live.Given as goal
 
 abbrev pub invariant-loop-s : goal.invariant-loop-s

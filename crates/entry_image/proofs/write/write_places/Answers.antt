@@ -1,16 +1,14 @@
 -- `write_places` meets its contract: the goals that are left, from the invariant.
 use Rattle.entry_image.proofs as own
-use lib.ListN.{length-set}
-use Prim.Native.Nat.{◌+◌, ◌*◌, ◌-◌, ◌≤◌}
+use Prim.Native.Nat.{◌+◌, ◌*◌}
 use mathlib.Core.Path.{◌≡◌, refl}
 use mathlib.Core.List.{[], ◌∷◌}
 use native.Mathlib.Omega.{arith}
 use lib.ListN.{length}
 use Rattle.entry.specs.Sizes.{sizes}
 use Rattle.lend.specs.Cache.{empty_place, place_at}
-use Rattle.image.specs.Image.{place_bytes, joined, cache_from}
-use Rattle.image.specs.Put.{PutTo}
-use Rattle.image.proofs.Put.{put_none, put_element, put_as}
+use Rattle.image.specs.Image.{place_bytes, cache_from}
+use Rattle.image.proofs.Put.{put_element}
 use borrow.Author.Rules.{rules}
 use own.write.write_places.Goals as goal
 

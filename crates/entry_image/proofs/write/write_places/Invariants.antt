@@ -1,17 +1,9 @@
 -- `write_places` meets its contract. The invariant: the bytes of the first i places are written, and all else is as it was.
 use Rattle.entry_image.proofs as own
-use lib.ListN.{length-set}
-use Prim.Native.Nat.{◌+◌, ◌*◌, ◌-◌, ◌≤◌}
-use mathlib.Core.Path.{◌≡◌, refl}
-use mathlib.Core.List.{[], ◌∷◌}
-use native.Mathlib.Omega.{arith}
-use lib.ListN.{length}
+use Prim.Native.Nat.{◌*◌, ◌-◌, ◌≤◌}
 use Rattle.entry.specs.Sizes.{sizes}
-use Rattle.lend.specs.Cache.{empty_place, place_at}
 use Rattle.image.specs.Image.{place_bytes, joined, cache_from}
 use Rattle.image.specs.Put.{PutTo}
-use Rattle.image.proofs.Put.{put_none, put_element, put_as}
-use borrow.Author.Rules.{rules}
 use own.write.write_places.Given as goal
 
 abbrev pub invariant-loop-i : goal.invariant-loop-i

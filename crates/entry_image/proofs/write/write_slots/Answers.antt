@@ -1,8 +1,7 @@
 -- `write_slots` meets its contract: the goals that are left, from the invariant.
 use Rattle.entry_image.proofs as own
-use lib.ListN.{length-set}
 use Rattle.lend.specs.Slots.{slot_at}
-use Prim.Native.Nat.{◌*◌, ◌-◌, ◌≤◌}
+use Prim.Native.Nat.{◌*◌}
 use mathlib.Core.Path.{◌≡◌, refl}
 use native.Mathlib.Omega.{arith}
 use lib.ListN.{length}
@@ -10,9 +9,8 @@ use Rattle.entry.specs.Sizes.{sizes}
 use Rattle.lend.specs.Sizes.{slot_count}
 use Rattle.lend.specs.Slots.{empty_slot}
 use mathlib.Core.List.{[], ◌∷◌}
-use Rattle.image.specs.Image.{slot_bytes, joined}
-use Rattle.image.specs.Put.{PutTo}
-use Rattle.image.proofs.Put.{put_none, put_element, put_as}
+use Rattle.image.specs.Image.{slot_bytes}
+use Rattle.image.proofs.Put.{put_element}
 use borrow.Author.Rules.{rules}
 use own.write.write_slots.Goals as goal
 

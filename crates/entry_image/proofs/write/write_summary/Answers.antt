@@ -1,15 +1,14 @@
 -- `write_summary` meets its contract: the goals that are left, from the invariant.
 use Rattle.entry_image.proofs as own
-use Prim.Native.Nat.{◌+◌, ◌*◌, ◌-◌, ◌≤◌}
+use Prim.Native.Nat.{◌+◌, ◌*◌}
 use mathlib.Core.Path.{◌≡◌, refl}
 use mathlib.Core.List.{[], ◌∷◌}
 use native.Mathlib.Omega.{arith}
-use lib.ListN.{length, length-set}
+use lib.ListN.{length}
 use Rattle.entry.specs.Sizes.{sizes}
 use Rattle.lend.specs.Summary.{no_count}
-use Rattle.image.specs.Image.{count_bytes, joined, summary_from}
-use Rattle.image.specs.Put.{PutTo}
-use Rattle.image.proofs.Put.{put_none, put_element, put_as}
+use Rattle.image.specs.Image.{count_bytes, summary_from}
+use Rattle.image.proofs.Put.{put_element}
 use borrow.Author.Rules.{rules}
 use own.write.write_summary.Goals as goal
 

@@ -1,16 +1,9 @@
 -- `write_summary` meets its contract. The invariant: the bytes of the first i counts are written, and all else is as it was.
 use Rattle.entry_image.proofs as own
-use Prim.Native.Nat.{◌+◌, ◌*◌, ◌-◌, ◌≤◌}
-use mathlib.Core.Path.{◌≡◌, refl}
-use mathlib.Core.List.{[], ◌∷◌}
-use native.Mathlib.Omega.{arith}
-use lib.ListN.{length, length-set}
+use Prim.Native.Nat.{◌*◌, ◌-◌, ◌≤◌}
 use Rattle.entry.specs.Sizes.{sizes}
-use Rattle.lend.specs.Summary.{no_count}
 use Rattle.image.specs.Image.{count_bytes, joined, summary_from}
 use Rattle.image.specs.Put.{PutTo}
-use Rattle.image.proofs.Put.{put_none, put_element, put_as}
-use borrow.Author.Rules.{rules}
 use own.write.write_summary.Given as goal
 
 abbrev pub invariant-loop-i : goal.invariant-loop-i

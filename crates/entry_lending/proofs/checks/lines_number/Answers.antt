@@ -1,9 +1,5 @@
 -- `lines_number` meets its contract: the tests are the cases, in their order.
 use Rattle.entry_lending.proofs as own
-use native.Mathlib.Omega.{arith}
-use borrow.Author.Rules.{rules}
-use lib.Dec.{lit<}
-use Rattle.lend_code.proofs.Fits.{inside_in}
 use Rattle.lend_code.proofs.LendingNumbers.{lines_made}
 use Rattle.entry.specs.Sizes.{sizes}
 use own.checks.lines_number.Goals as goal

@@ -1,13 +1,11 @@
 -- `other_below` meets its contract: the goals that are left, from the invariant.
 use Rattle.entry_lending.proofs as own
-use Prim.Native.Nat.{◌-◌, ◌*◌, ◌+◌}
 use mathlib.Core.Path.{◌≡◌}
-use native.Mathlib.Omega.{arith}
 use borrow.Author.Rules.{rules}
 use lib.Dec.{lit<}
 use lib.ListN.{length}
 use Rattle.lend.specs.Sizes.{slot_count}
-use Rattle.lend_code.proofs.OneSpace.{no_such_space, Seeking, seeking_none, seeking_in, seeking_found, seeking_next, seeking_up, seeking_all}
+use Rattle.lend_code.proofs.OneSpace.{no_such_space, seeking_none, seeking_found, seeking_next, seeking_up, seeking_all}
 use Rattle.entry.specs.Sizes.{sizes}
 use own.checks.other_below.Goals as goal
 

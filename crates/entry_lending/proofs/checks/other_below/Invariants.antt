@@ -2,13 +2,7 @@
 -- the line of the next one, from the page at on, has the answer for it. The measure counts the lines left, and the pages left of this one.
 use Rattle.entry_lending.proofs as own
 use Prim.Native.Nat.{◌-◌, ◌*◌, ◌+◌}
-use mathlib.Core.Path.{◌≡◌}
-use native.Mathlib.Omega.{arith}
-use borrow.Author.Rules.{rules}
-use lib.Dec.{lit<}
-use lib.ListN.{length}
-use Rattle.lend.specs.Sizes.{slot_count}
-use Rattle.lend_code.proofs.OneSpace.{no_such_space, Seeking, seeking_none, seeking_in, seeking_found, seeking_next, seeking_up, seeking_all}
+use Rattle.lend_code.proofs.OneSpace.{Seeking}
 use Rattle.entry.specs.Sizes.{sizes}
 use own.checks.other_below.Given as goal
 

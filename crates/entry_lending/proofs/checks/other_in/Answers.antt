@@ -1,11 +1,7 @@
 -- `other_in` meets its contract: the goals that are left, from the invariant.
 use Rattle.entry_lending.proofs as own
-use Prim.Native.Nat.{◌-◌}
-use native.Mathlib.Omega.{arith}
-use borrow.Author.Rules.{rules}
 use lib.Dec.{lit<}
-use Rattle.lend_code.proofs.Climbs.{Failed, failed_none, failed_more}
-use Rattle.lend_code.proofs.OneSpace.{other_at, no_such_space, one_there, none_there}
+use Rattle.lend_code.proofs.OneSpace.{no_such_space, one_there, none_there}
 use Rattle.entry.specs.Sizes.{sizes}
 use own.checks.other_in.Goals as goal
 

@@ -1,11 +1,8 @@
 -- `other_in` meets its contract. The invariant: none of the first pages of the space is in the set and another one.
 use Rattle.entry_lending.proofs as own
 use Prim.Native.Nat.{◌-◌}
-use native.Mathlib.Omega.{arith}
-use borrow.Author.Rules.{rules}
-use lib.Dec.{lit<}
-use Rattle.lend_code.proofs.Climbs.{Failed, failed_none, failed_more}
-use Rattle.lend_code.proofs.OneSpace.{other_at, no_such_space, one_there, none_there}
+use Rattle.lend_code.proofs.Climbs.{Failed}
+use Rattle.lend_code.proofs.OneSpace.{other_at}
 use Rattle.entry.specs.Sizes.{sizes}
 use own.checks.other_in.Given as goal
 

@@ -2,9 +2,8 @@
 use Rattle.entry_lending.proofs as own
 use mathlib.Core.Bool.{not}
 use mathlib.Core.Path.{ap, ◌∙◌}
-use Rattle.lend_code.proofs.Calls.{call_unsound, sound_told}
+use Rattle.lend_code.proofs.Calls.{call_unsound}
 use Rattle.entry.specs.Sizes.{sizes}
-use borrow.Author.Rules.{rules}
 use own.grant.grant.Goals as goal
 
 pub returns-then-not-sound : goal.returns-then-not-sound

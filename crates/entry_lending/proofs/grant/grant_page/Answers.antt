@@ -11,7 +11,6 @@ use Rattle.lend_code.proofs.LendingNumbers.{NamedFine, grant_named_fine, giver_i
 use Rattle.lend_code.proofs.LendingCalls.{named_checked, grant_refused, grant_refused_lines, grant_done}
 use Rattle.entry.specs.Sizes.{sizes}
 use Rattle.entry.specs.Board.{tables}
-use borrow.Author.Rules.{rules}
 use own.grant.grant_page.Goals as goal
 
 few : slot_count sizes < 65535

@@ -10,7 +10,6 @@ use Rattle.lend_code.proofs.LendingNumbers.{NamedFine, map_named_fine, taker_in}
 use Rattle.lend_code.proofs.LendingCalls.{named_checked, map_refused, map_refused_lines, map_done}
 use Rattle.entry.specs.Sizes.{sizes}
 use Rattle.entry.specs.Board.{tables}
-use borrow.Author.Rules.{rules}
 use own.map.map_page.Goals as goal
 
 few : slot_count sizes < 65535

@@ -1,7 +1,6 @@
 -- `linked` meets its contract: the code is the definition, call by call.
 use Rattle.entry_lending.proofs as own
 use Rattle.lend_code.specs.Lending.{linked_in}
-use borrow.Author.Rules.{rules}
 use own.relink.linked.Goals as goal
 
 pub returns : goal.returns

@@ -3,7 +3,6 @@ use Rattle.entry_lending.proofs as own
 use Rattle.lend_code.proofs.Taken.{taken_made}
 use Rattle.entry.specs.Sizes.{sizes}
 use Rattle.entry.specs.Board.{tables}
-use borrow.Author.Rules.{rules}
 use own.relink.taken.Goals as goal
 
 pub returns : goal.returns

@@ -1,10 +1,8 @@
 -- `taken_from` meets its contract: the code is the definition, call by call.
 use Rattle.entry_lending.proofs as own
-use mathlib.Core.Path.{ap, ◌∙◌}
 use Rattle.lend_code.specs.Inner.{cut_slots}
 use Rattle.lend_code.proofs.Withdrawals.{lost_made}
 use Rattle.entry.specs.Sizes.{sizes}
-use borrow.Author.Rules.{rules}
 use own.relink.taken_from.Goals as goal
 
 pub returns : goal.returns

@@ -1,10 +1,7 @@
 -- `live_flags` meets its contract: the goals that are left, from the invariant.
 use Rattle.entry_listing.proofs as own
-use Prim.Native.Nat.{◌-◌}
-use native.Mathlib.Omega.{arith}
 use mathlib.Core.Path.{refl}
-use Rattle.entry.specs.Sizes.{sizes}
-use Rattle.listing.proofs.Live.{Flagging, flag_none, flag_turn, flag_end}
+use Rattle.listing.proofs.Live.{flag_turn, flag_end}
 use borrow.Author.Rules.{rules}
 use own.live.live_flags.Goals as goal
 

@@ -1,11 +1,8 @@
 -- `live_flags` meets its contract. The invariant: the first s flags are those of n, and m has the others.
 use Rattle.entry_listing.proofs as own
 use Prim.Native.Nat.{◌-◌}
-use native.Mathlib.Omega.{arith}
-use mathlib.Core.Path.{refl}
 use Rattle.entry.specs.Sizes.{sizes}
-use Rattle.listing.proofs.Live.{Flagging, flag_none, flag_turn, flag_end}
-use borrow.Author.Rules.{rules}
+use Rattle.listing.proofs.Live.{Flagging}
 use own.live.live_flags.Given as goal
 
 abbrev pub invariant-loop-s : goal.invariant-loop-s

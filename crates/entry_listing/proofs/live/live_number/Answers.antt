@@ -1,11 +1,7 @@
 -- `live_number` meets its contract: the goals that are left, from the invariant.
 use Rattle.entry_listing.proofs as own
-use Rattle.entry.specs.Sizes.{sizes}
 use own.Readable.{readable}
-use lib.ListN.{length}
-use mathlib.Core.Path.{◌≡◌}
-use native.Mathlib.Omega.{arith}
-use Rattle.listing.proofs.Live.{Numbering, number_none, number_turn, number_end}
+use Rattle.listing.proofs.Live.{number_none, number_turn}
 use Rattle.listing.proofs.Said.{number_fits}
 use borrow.Author.Rules.{rules}
 use own.live.live_number.Goals as goal

@@ -1,13 +1,9 @@
 -- `live_number` meets its contract. The invariant: n is the number of the flags from space `left` on.
 use Rattle.entry_listing.proofs as own
 use Rattle.entry.specs.Sizes.{sizes}
-use own.Readable.{readable}
 use lib.ListN.{length}
 use mathlib.Core.Path.{◌≡◌}
-use native.Mathlib.Omega.{arith}
-use Rattle.listing.proofs.Live.{Numbering, number_none, number_turn, number_end}
-use Rattle.listing.proofs.Said.{number_fits}
-use borrow.Author.Rules.{rules}
+use Rattle.listing.proofs.Live.{Numbering}
 use own.live.live_number.Given as goal
 
 abbrev pub invariant-loop-left : goal.invariant-loop-left

@@ -1,16 +1,14 @@
 -- `read_from` meets its contract: the goals that are left, from the invariant.
 use Rattle.entry_listing.proofs as own
-use Prim.Native.Nat.{◌-◌, ◌≤◌}
+use Prim.Native.Nat.{◌≤◌}
 use mathlib.Core.Path.{sym, ap, ◌∙◌}
 use native.Mathlib.Omega.{arith}
 use lib.ListN.{length}
-use borrow.Author.Tests.{not-true, not-false}
 use Rattle.lend_basics.proofs.Bools.{true_is}
 use Rattle.lend.specs.Tables.{Tables}
 use Rattle.text.proofs.Seeking.{line_within}
-use Rattle.listing.specs.Loop.{read_from}
 use Rattle.listing.proofs.Said.{row_fits, key_below}
-use Rattle.listing.proofs.Loop.{Reading, read_start, read_none, read_last, read_turn, read_bad}
+use Rattle.listing.proofs.Loop.{read_start, read_none, read_last, read_turn, read_bad}
 use Rattle.entry.specs.Sizes.{sizes}
 use borrow.Author.Rules.{rules}
 use own.read.read_from.Goals as goal

@@ -7,7 +7,6 @@ use native.Mathlib.Omega.{arith}
 use lib.Dec.{leb}
 use lib.ListN.{length}
 use lib.Seq.{length-take-le}
-use borrow.Author.Tests.{not-true, not-false}
 use Rattle.text.proofs.Seeking.{line_within}
 use Rattle.listing.proofs.Loop.{not_ended, first_bad, first_read}
 use Rattle.entry.specs.Sizes.{sizes}

@@ -1,13 +1,10 @@
 -- `put_listing` meets its contract: the goals that are left, from the invariant.
 use Rattle.entry_listing.proofs as own
-use Prim.Native.Nat.{◌+◌, ◌-◌}
+use Prim.Native.Nat.{◌+◌}
 use mathlib.Core.Path.{◌∙◌, ap}
 use mathlib.Core.Bool.{Bool, cond}
 use native.Mathlib.Omega.{arith}
-use Rattle.lend.specs.Sizes.{slot_count}
-use Rattle.lend.specs.Slots.{slot_at}
-use Rattle.text.proofs.Writing.{wrote_length}
-use Rattle.listing.proofs.Writing.{Listing, list_start, list_turn, list_end, wrote_listing}
+use Rattle.listing.proofs.Writing.{list_start, list_turn, list_end, wrote_listing}
 use Rattle.entry.specs.Sizes.{sizes}
 use Rattle.entry.specs.Board.{tables}
 use borrow.Author.Rules.{rules}

@@ -1,16 +1,10 @@
 -- `put_listing` meets its contract. The invariant: what is left to list gives the whole listing, and the pages before k are counted.
 use Rattle.entry_listing.proofs as own
-use Prim.Native.Nat.{◌+◌, ◌-◌}
-use mathlib.Core.Path.{◌∙◌, ap}
-use mathlib.Core.Bool.{Bool, cond}
-use native.Mathlib.Omega.{arith}
+use Prim.Native.Nat.{◌-◌}
 use Rattle.lend.specs.Sizes.{slot_count}
 use Rattle.lend.specs.Slots.{slot_at}
-use Rattle.text.proofs.Writing.{wrote_length}
-use Rattle.listing.proofs.Writing.{Listing, list_start, list_turn, list_end, wrote_listing}
+use Rattle.listing.proofs.Writing.{Listing}
 use Rattle.entry.specs.Sizes.{sizes}
-use Rattle.entry.specs.Board.{tables}
-use borrow.Author.Rules.{rules}
 use own.write.put_listing.Given as goal
 
 abbrev pub invariant-loop-k : goal.invariant-loop-k

@@ -6,7 +6,6 @@ use mathlib.Core.List.{List}
 use native.Mathlib.Omega.{arith}
 use lib.ListN.{length, take}
 use lib.Seq.{length-take-le}
-use borrow.Author.Tests.{not-true, not-false}
 use Rattle.lend.specs.Tables.{Tables}
 use Rattle.text.specs.Write.{last_position}
 use Rattle.listing.specs.Listing.{listing_of}

@@ -3,7 +3,6 @@ use Rattle.entry_script.proofs as own
 use mathlib.Core.Path.{refl, ◌∙◌}
 use Rattle.script.proofs.Turns.{called, not_called}
 use Rattle.entry.specs.Sizes.{sizes}
-use borrow.Author.Rules.{rules}
 use own.judge.judge.Goals as goal
 
 pub returns-in-Create : goal.returns-in-Create

@@ -2,7 +2,6 @@
 use Rattle.entry_script.proofs as own
 use Rattle.script.proofs.Turns.{turn_comment, turn_request}
 use Rattle.entry.specs.Sizes.{sizes}
-use borrow.Author.Rules.{rules}
 use own.judge.line_turn.Goals as goal
 
 pub returns-then-is_comment : goal.returns-then-is_comment

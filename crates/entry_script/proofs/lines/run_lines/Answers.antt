@@ -1,13 +1,10 @@
 -- `run_lines` meets its contract: the goals that are left, from the invariant.
 use Rattle.entry_script.proofs as own
-use Prim.Native.Nat.{◌-◌, ◌≤◌}
+use Prim.Native.Nat.{◌≤◌}
 use lib.ListN.{length}
-use Rattle.lend.specs.Tables.{alone}
-use Rattle.text.proofs.Writing.{wrote_length}
 use Rattle.text.proofs.Seeking.{line_within}
-use Rattle.script.proofs.Running.{Running, run_start, run_turn, run_end}
+use Rattle.script.proofs.Running.{run_start, run_turn, run_end}
 use Rattle.entry.specs.Sizes.{sizes}
-use Rattle.entry.specs.Board.{tables}
 use borrow.Author.Rules.{rules}
 use own.lines.run_lines.Goals as goal
 

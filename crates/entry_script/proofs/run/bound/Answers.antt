@@ -2,7 +2,6 @@
 use Rattle.entry_script.proofs as own
 use mathlib.Core.Path.{refl}
 use Rattle.script.specs.Bound.{output_bound}
-use borrow.Author.Rules.{rules}
 use own.run.bound.Goals as goal
 
 pub returns : goal.returns

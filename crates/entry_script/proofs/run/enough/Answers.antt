@@ -3,7 +3,6 @@ use Rattle.entry_script.proofs as own
 use native.Mathlib.Omega.{arith}
 use Rattle.script.proofs.Parts.{enough_whole, enough_part}
 use Rattle.entry.specs.Sizes.{sizes}
-use borrow.Author.Rules.{rules}
 use own.run.enough.Goals as goal
 
 pub returns-then-input-le-INPUT_LIMIT : goal.returns-then-input-le-INPUT_LIMIT

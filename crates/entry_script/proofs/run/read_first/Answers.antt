@@ -7,7 +7,6 @@ use lib.Seq.{length-take-le}
 use Rattle.script.specs.Script.{input_limit}
 use Rattle.script.proofs.Parts.{listing_whole}
 use Rattle.entry.specs.Sizes.{sizes}
-use borrow.Author.Rules.{rules}
 use own.run.read_first.Goals as goal
 
 pub returns-then-listing-le-INPUT_LIMIT : goal.returns-then-listing-le-INPUT_LIMIT

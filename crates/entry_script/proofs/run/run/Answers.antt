@@ -4,7 +4,6 @@ use native.Mathlib.Omega.{arith}
 use Rattle.script.specs.Bound.{output_bound}
 use Rattle.script.proofs.Parts.{ran_short, ran_whole}
 use Rattle.entry.specs.Sizes.{sizes}
-use borrow.Author.Rules.{rules}
 use own.run.run.Goals as goal
 
 pub returns-then-output-enough : goal.returns-then-output-enough

@@ -8,7 +8,6 @@ use lib.Seq.{length-take-le}
 use Rattle.script.specs.Script.{input_limit}
 use Rattle.script.proofs.Parts.{input_whole}
 use Rattle.entry.specs.Sizes.{sizes}
-use borrow.Author.Rules.{rules}
 use own.run.run_first.Goals as goal
 
 pub returns-then-input-le-INPUT_LIMIT : goal.returns-then-input-le-INPUT_LIMIT

@@ -4,7 +4,6 @@ use native.Mathlib.Omega.{arith}
 use Rattle.script.specs.Bound.{output_bound}
 use Rattle.script.proofs.Parts.{from_short, from_whole}
 use Rattle.entry.specs.Sizes.{sizes}
-use borrow.Author.Rules.{rules}
 use own.run.run_from.Goals as goal
 
 pub returns-then-output-enough : goal.returns-then-output-enough

@@ -2,7 +2,6 @@
 use Rattle.entry_script.proofs as own
 use Rattle.script.proofs.Parts.{by_board, by_refusal}
 use Rattle.entry.specs.Sizes.{sizes}
-use borrow.Author.Rules.{rules}
 use own.run.run_read.Goals as goal
 
 pub returns-then-read-eq0 : goal.returns-then-read-eq0

@@ -5,7 +5,6 @@ use Rattle.image.proofs.Answered.{answered_on}
 use mathlib.Core.Path.{refl}
 use Rattle.lend.specs.Calls.{Load}
 use Rattle.entry_access.specs.Answers.{loaded}
-use borrow.Author.Rules.{rules}
 use own.access.lend_entry_load.Goals as goal
 
 pub returns : goal.returns

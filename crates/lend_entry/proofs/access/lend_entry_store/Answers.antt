@@ -4,7 +4,6 @@ use Rattle.entry.specs.Sizes.{sizes}
 use Rattle.image.proofs.Answered.{answered_on}
 use mathlib.Core.Path.{refl}
 use Rattle.lend.specs.Calls.{Store}
-use borrow.Author.Rules.{rules}
 use own.access.lend_entry_store.Goals as goal
 
 pub returns : goal.returns

@@ -7,7 +7,6 @@ use mathlib.Core.Path.{refl, ap}
 use Rattle.lend.specs.Calls.{Translate}
 use Rattle.image.specs.Answered.{three_of}
 use Rattle.entry_access.specs.Answers.{translated}
-use borrow.Author.Rules.{rules}
 use own.access.lend_entry_translate.Goals as goal
 
 pub returns : goal.returns

@@ -2,7 +2,6 @@
 use Rattle.lend_entry.proofs as own
 use Rattle.entry.specs.Sizes.{sizes}
 use Rattle.image.proofs.Answered.{started}
-use borrow.Author.Rules.{rules}
 use own.board.lend_entry_start.Goals as goal
 
 pub returns : goal.returns

@@ -2,7 +2,6 @@
 use Rattle.lend_entry.proofs as own
 use Rattle.entry.specs.Sizes.{sizes}
 use Rattle.image.proofs.Answered.{finished_refused, finished_done}
-use borrow.Author.Rules.{rules}
 use own.finish.finish.Goals as goal
 
 pub returns-then-number-ne0 : goal.returns-then-number-ne0

@@ -2,7 +2,6 @@
 use Rattle.lend_entry.proofs as own
 use Rattle.entry.specs.Sizes.{sizes}
 use Rattle.image.proofs.Answered.{range_finished_refused, range_finished_done}
-use borrow.Author.Rules.{rules}
 use own.finish.finish_range.Goals as goal
 
 pub returns-then-number-eq1 : goal.returns-then-number-eq1

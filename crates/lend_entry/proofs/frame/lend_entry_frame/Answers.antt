@@ -1,9 +1,7 @@
 -- `lend_entry_frame` meets its contract.
 use Rattle.lend_entry.proofs as own
-use borrow.Author.Tests.{not-true, not-false}
 use Rattle.entry.specs.Sizes.{sizes}
 use Rattle.image.proofs.Answered.{frame_unsound, frame_past, frame_told}
-use borrow.Author.Rules.{rules}
 use own.frame.lend_entry_frame.Goals as goal
 
 pub returns-then-not-sound : goal.returns-then-not-sound

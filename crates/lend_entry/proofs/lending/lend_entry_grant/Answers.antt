@@ -5,7 +5,6 @@ use Rattle.image.proofs.Answered.{answered_on}
 use mathlib.Core.Path.{refl}
 use Rattle.lend.specs.Calls.{Grant}
 use Rattle.entry_calls.specs.Answer.{outcome}
-use borrow.Author.Rules.{rules}
 use own.lending.lend_entry_grant.Goals as goal
 
 pub returns : goal.returns

@@ -4,7 +4,6 @@ use Rattle.lend.specs.Ranges.{FlushRange}
 use Rattle.entry.specs.Sizes.{sizes}
 use Rattle.entry_calls.specs.RangeAnswer.{range_outcome}
 use Rattle.image.proofs.Answered.{range_answered_on}
-use borrow.Author.Rules.{rules}
 use own.ranges.lend_entry_flush_range.Goals as goal
 
 pub returns : goal.returns

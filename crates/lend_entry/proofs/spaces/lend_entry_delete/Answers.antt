@@ -5,7 +5,6 @@ use mathlib.Core.Path.{refl}
 use Rattle.lend.specs.Calls.{Delete}
 use Rattle.entry_calls.specs.Answer.{outcome}
 use Rattle.image.proofs.Answered.{answered_on}
-use borrow.Author.Rules.{rules}
 use own.spaces.lend_entry_delete.Goals as goal
 
 pub returns : goal.returns

@@ -5,7 +5,6 @@ use mathlib.Core.Path.{refl}
 use Rattle.lend.specs.Calls.{Unmap}
 use Rattle.entry_calls.specs.Answer.{outcome}
 use Rattle.image.proofs.Answered.{answered_on}
-use borrow.Author.Rules.{rules}
 use own.withdraw.lend_entry_unmap.Goals as goal
 
 pub returns : goal.returns

@@ -2,7 +2,6 @@
 use Rattle.listing.proofs as own
 use Rattle.listing.specs as spec
 use spec.Read.{held_fields}
-use borrow.Author.Rules.{rules}
 use own.read.held_fields.Goals as goal
 
 pub returns : goal.returns

@@ -2,7 +2,6 @@
 use Rattle.listing.proofs as own
 use Rattle.listing.specs as spec
 use spec.Read.{page_fields}
-use borrow.Author.Rules.{rules}
 use own.read.page_fields.Goals as goal
 
 pub returns : goal.returns

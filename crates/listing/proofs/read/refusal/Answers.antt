@@ -2,7 +2,6 @@
 use Rattle.listing.proofs as own
 use Rattle.listing.specs as spec
 use spec.Read.{refusal}
-use borrow.Author.Rules.{rules}
 use own.read.refusal.Goals as goal
 
 pub returns : goal.returns

@@ -2,7 +2,6 @@
 use Rattle.text.proofs as own
 use Rattle.text.specs as spec
 use spec.Request.{map_or}
-use borrow.Author.Rules.{rules}
 use own.forms.or_map.Goals as goal
 
 pub returns : goal.returns

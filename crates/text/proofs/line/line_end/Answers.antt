@@ -1,9 +1,6 @@
 -- `line_end` meets its contract: the goals that are left, from the invariant.
 use Rattle.text.proofs as own
-use own.Seeking.{Seeking, seek_hit, seek_on, seek_end}
-use mathlib.Core.Path.{refl}
-use lib.ListN.{length}
-use Prim.Native.Nat.{◌-◌}
+use own.Seeking.{seek_hit, seek_on, seek_end}
 use borrow.Author.Rules.{rules}
 use own.line.line_end.Goals as goal
 

@@ -1,10 +1,8 @@
 -- `line_end` meets its contract: what is left of the line ends where the line does.
 use Rattle.text.proofs as own
-use own.Seeking.{Seeking, seek_hit, seek_on, seek_end}
-use mathlib.Core.Path.{refl}
+use own.Seeking.{Seeking}
 use lib.ListN.{length}
 use Prim.Native.Nat.{◌-◌}
-use borrow.Author.Rules.{rules}
 use own.line.line_end.Given as goal
 
 abbrev pub invariant-loop-i : goal.invariant-loop-i

@@ -2,7 +2,6 @@
 use Rattle.text.proofs as own
 use Rattle.text.specs as spec
 use spec.Request.{request_of}
-use borrow.Author.Rules.{rules}
 use own.line.parse.Goals as goal
 
 pub returns : goal.returns

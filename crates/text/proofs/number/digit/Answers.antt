@@ -5,7 +5,6 @@ use spec.Decimal.{digit_of}
 use borrow.Author.Tests.{lt-ltb, le-ltb}
 use lib.ListN.{get_or-eq_default}
 use Prim.Native.Nat.{ℕ}
-use borrow.Author.Rules.{rules}
 use own.number.digit.Goals as goal
 
 pub returns-then-s-at : goal.returns-then-s-at

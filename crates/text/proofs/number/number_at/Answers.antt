@@ -2,7 +2,6 @@
 use Rattle.text.proofs as own
 use Rattle.text.specs as spec
 use spec.Decimal.{number_at}
-use borrow.Author.Rules.{rules}
 use own.number.number_at.Goals as goal
 
 pub returns : goal.returns

@@ -2,7 +2,6 @@
 use Rattle.text.proofs as own
 use Rattle.text.specs as spec
 use spec.Fields.{field_at}
-use borrow.Author.Rules.{rules}
 use own.read.field_at.Goals as goal
 
 pub returns-then-mark : goal.returns-then-mark

@@ -2,7 +2,6 @@
 use Rattle.text.proofs as own
 use Rattle.text.specs as spec
 use spec.Fields.{five_fields}
-use borrow.Author.Rules.{rules}
 use own.read.five_fields.Goals as goal
 
 pub returns : goal.returns

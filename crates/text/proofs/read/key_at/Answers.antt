@@ -1,9 +1,6 @@
 -- `key_at` meets its contract: the goals that are left, from the invariant.
 use Rattle.text.proofs as own
-use own.Reading.{Matching, match_out, match_other, match_more, match_all}
-use mathlib.Core.Path.{refl}
-use lib.ListN.{length}
-use Prim.Native.Nat.{◌-◌}
+use own.Reading.{match_out, match_other, match_more, match_all}
 use borrow.Author.Rules.{rules}
 use own.read.key_at.Goals as goal
 

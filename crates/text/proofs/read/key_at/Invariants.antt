@@ -1,10 +1,8 @@
 -- `key_at` meets its contract: what is left to match is what was to be matched.
 use Rattle.text.proofs as own
-use own.Reading.{Matching, match_out, match_other, match_more, match_all}
-use mathlib.Core.Path.{refl}
+use own.Reading.{Matching}
 use lib.ListN.{length}
 use Prim.Native.Nat.{◌-◌}
-use borrow.Author.Rules.{rules}
 use own.read.key_at.Given as goal
 
 abbrev pub invariant-loop-i : goal.invariant-loop-i

@@ -2,7 +2,6 @@
 use Rattle.text.proofs as own
 use Rattle.text.specs as spec
 use spec.Fields.{one_field}
-use borrow.Author.Rules.{rules}
 use own.read.one_field.Goals as goal
 
 pub returns : goal.returns

@@ -3,7 +3,6 @@ use Rattle.text.proofs as own
 use Rattle.text.specs as spec
 use spec.Write.{next_position}
 use borrow.Author.Tests.{lt-ltb, le-ltb}
-use borrow.Author.Rules.{rules}
 use own.write.next_position.Goals as goal
 
 pub returns-then-at-lt-LAST : goal.returns-then-at-lt-LAST

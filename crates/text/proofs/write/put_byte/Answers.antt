@@ -1,7 +1,6 @@
 -- `put_byte` meets its contract: past the end nothing is stored.
 use Rattle.text.proofs as own
 use own.Writing.{wrote_byte, wrote_past}
-use borrow.Author.Rules.{rules}
 use own.write.put_byte.Goals as goal
 
 pub returns-then-at-out : goal.returns-then-at-out

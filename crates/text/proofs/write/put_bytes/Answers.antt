@@ -1,9 +1,6 @@
 -- `put_bytes` meets its contract: the goals that are left, from the invariant.
 use Rattle.text.proofs as own
-use own.Writing.{Putting, put_turn, put_end, wrote_length}
-use mathlib.Core.Path.{refl}
-use lib.ListN.{length}
-use Prim.Native.Nat.{◌-◌}
+use own.Writing.{put_turn, put_end}
 use borrow.Author.Rules.{rules}
 use own.write.put_bytes.Goals as goal
 

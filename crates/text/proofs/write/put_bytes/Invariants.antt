@@ -1,10 +1,8 @@
 -- `put_bytes` meets its contract: what is left to write is what was to be written.
 use Rattle.text.proofs as own
-use own.Writing.{Putting, put_turn, put_end, wrote_length}
-use mathlib.Core.Path.{refl}
+use own.Writing.{Putting}
 use lib.ListN.{length}
 use Prim.Native.Nat.{◌-◌}
-use borrow.Author.Rules.{rules}
 use own.write.put_bytes.Given as goal
 
 abbrev pub invariant-loop-i : goal.invariant-loop-i

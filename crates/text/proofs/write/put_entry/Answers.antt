@@ -3,7 +3,6 @@ use Rattle.text.proofs as own
 use Rattle.text.specs as spec
 use spec.Write.{entry}
 use own.Writing.{wrote_more}
-use borrow.Author.Rules.{rules}
 use own.write.put_entry.Goals as goal
 
 pub returns : goal.returns

@@ -1,0 +1,12 @@
+-- Made by tools/models.py from crates/lend_entry/proofs/ranges/lend_entry_flush_range/Answers.antt: change that file.
+-- `lend_premium_flush_range` meets its contract: the call on the board that was read.
+use Rattle.lend_premium.proofs as own
+use Rattle.lend.specs.Ranges.{FlushRange}
+use Rattle.premium.specs.Sizes.{sizes}
+use Rattle.premium_calls.specs.RangeAnswer.{range_outcome}
+use Rattle.image.proofs.Answered.{range_answered_on}
+use own.ranges.lend_premium_flush_range.Goals as goal
+
+pub returns : goal.returns
+returns c =
+    range_answered_on sizes (FlushRange c.args.space c.args.base c.args.size c.args.rights) _ _ (range_outcome c.flush_range-answer.result) c.read_image.ensures c.flush_range-answer.ensures _ _ _ c.finish_range.ensures

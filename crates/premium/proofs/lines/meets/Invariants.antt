@@ -1,0 +1,13 @@
+-- Made by tools/models.py from crates/entry/proofs/lines/meets/Invariants.antt: change that file.
+-- `meets` meets its contract. The invariant: what is left of the line, from the page at on, has the answer. The measure is what is left.
+use Rattle.premium.proofs as own
+use Rattle.premium.specs as spec
+use Rattle.lend_code.proofs.Climbs.{Climbing}
+use spec.Sizes.{sizes}
+use own.lines.meets.Given as goal
+
+abbrev pub invariant-loop-left : goal.invariant-loop-left
+invariant-loop-left l = Climbing sizes l.slots l.space l.k l.at l.left
+
+abbrev pub decreases-loop-left : goal.decreases-loop-left
+decreases-loop-left l = l.left

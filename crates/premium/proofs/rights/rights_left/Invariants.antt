@@ -1,0 +1,17 @@
+-- Made by tools/models.py from crates/entry/proofs/rights/rights_left/Invariants.antt: change that file.
+-- `rights_left` meets its contract. The invariant: before k stands what is left, from k on what was there.
+use Rattle.premium.proofs as own
+use Rattle.premium.specs as spec
+use Prim.Native.Nat.{◌-◌}
+use lib.ListN.{get_or}
+use Rattle.lend.specs.Sizes.{slot_count}
+use Rattle.lend_basics.proofs.Loops.{Changed}
+use Rattle.lend_code.specs.Inner.{has, left_of}
+use spec.Sizes.{sizes}
+use own.rights.rights_left.Given as goal
+
+abbrev pub invariant-loop-k : goal.invariant-loop-k
+invariant-loop-k l = Changed 0 (λ j. left_of (get_or l.initial.rights j 0) (has l.set j) l.d) l.initial.rights l.rights l.k
+
+abbrev pub decreases-loop-k : goal.decreases-loop-k
+decreases-loop-k l = slot_count sizes - l.k

@@ -1,0 +1,17 @@
+-- Made by tools/models.py from crates/entry/proofs/rights/slots_with/Invariants.antt: change that file.
+-- `slots_with` meets its contract. The invariant: before k stand the new slots, from k on the old ones.
+use Rattle.premium.proofs as own
+use Rattle.premium.specs as spec
+use Prim.Native.Nat.{◌-◌}
+use lib.ListN.{get_or}
+use Rattle.lend.specs.Sizes.{slot_count}
+use Rattle.lend.specs.Slots.{empty_slot, slot_at, with_rights}
+use Rattle.lend_basics.proofs.Loops.{Changed}
+use spec.Sizes.{sizes}
+use own.rights.slots_with.Given as goal
+
+abbrev pub invariant-loop-k : goal.invariant-loop-k
+invariant-loop-k l = Changed empty_slot (λ j. with_rights (get_or l.rights j 0) (slot_at l.initial.slots j)) l.initial.slots l.slots l.k
+
+abbrev pub decreases-loop-k : goal.decreases-loop-k
+decreases-loop-k l = slot_count sizes - l.k

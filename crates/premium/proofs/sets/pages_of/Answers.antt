@@ -1,0 +1,10 @@
+-- Made by tools/models.py from crates/entry/proofs/sets/pages_of/Answers.antt: change that file.
+-- `pages_of` meets its contract: the goals that are left, from the invariant.
+use Rattle.premium.proofs as own
+use Rattle.lend_basics.proofs.Loops.{built_all}
+use Rattle.lend_code.specs.Inner.{space_pages}
+use own.sets.pages_of.Goals as goal
+
+pub returns : goal.returns
+unfolding space_pages
+returns c = built_all _ _ _ _ _ c.loop-k.invariant c.loop-k-test.false

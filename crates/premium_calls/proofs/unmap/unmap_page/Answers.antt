@@ -1,0 +1,53 @@
+-- Made by tools/models.py from crates/entry_calls/proofs/unmap/unmap_page/Answers.antt: change that file.
+-- `unmap_page` meets its contract: what the number 0 has shown makes the withdrawal that of the rules.
+use Rattle.premium_calls.proofs as own
+use Prim.Native.Nat.{ℕ}
+use mathlib.Core.Path.{◌≡◌, ap, ◌∙◌}
+use mathlib.Core.Bool.{Bool, false}
+use mathlib.Core.List.{List}
+use native.Mathlib.Omega.{arith}
+use lib.ListN.{set}
+use Rattle.lend.specs.Sizes.{key}
+use Rattle.lend.specs.Tables.{alone}
+use Rattle.lend.specs.Calls.{Unmap, number}
+use Rattle.lend_summary.specs.Counts.{less_at}
+use Rattle.lend_code.specs.Inner.{line_has, cut_lost, withdrawn_of}
+use Rattle.lend_code.proofs.Withdrawals.{withdrawn_at}
+use Rattle.lend_code.proofs.Calls.{call_refused, page_checked, unmap_number, unmap_shows, unmap_done, named_in}
+use Rattle.premium.specs.Sizes.{sizes}
+use Rattle.premium.specs.Board.{tables}
+use own.unmap.unmap_page.Goals as goal
+
+pub returns-then-number-ne0 : goal.returns-then-number-ne0
+returns-then-number-ne0 c =
+    let numbered : c.page_number-number.result ≡ number sizes (alone (tables c.args.b)) (Unmap c.args.space c.args.page c.args.rights) = c.page_number-number.ensures
+    ∙ (page_checked sizes (tables c.args.b) c.requires c.args.space c.args.page c.args.rights 0
+    ∙ unmap_number sizes (tables c.args.b) c.args.space c.args.page c.args.rights) in
+    c.refused.ensures ∙ call_refused sizes _ _ _ numbered c.if-number-ne0.true
+
+pub bounds-below-y : goal.bounds-below-y
+bounds-below-y c =
+    let numbered : c.page_number-number.result ≡ number sizes (alone (tables c.args.b)) (Unmap c.args.space c.args.page c.args.rights) = c.page_number-number.ensures
+    ∙ (page_checked sizes (tables c.args.b) c.requires c.args.space c.args.page c.args.rights 0
+    ∙ unmap_number sizes (tables c.args.b) c.args.space c.args.page c.args.rights) in
+    named_in (unmap_shows sizes _ _ _ _ _ numbered c.if-number-ne0.false)
+
+pub overflow_cast-rights : goal.overflow_cast-rights
+overflow_cast-rights c =
+    let numbered : c.page_number-number.result ≡ number sizes (alone (tables c.args.b)) (Unmap c.args.space c.args.page c.args.rights) = c.page_number-number.ensures
+    ∙ (page_checked sizes (tables c.args.b) c.requires c.args.space c.args.page c.args.rights 0
+    ∙ unmap_number sizes (tables c.args.b) c.args.space c.args.page c.args.rights) in
+    omega (arith, (unmap_shows sizes _ _ _ _ _ numbered c.if-number-ne0.false).known_rights)
+
+pub returns : goal.returns
+returns c =
+    let numbered : c.page_number-number.result ≡ number sizes (alone (tables c.args.b)) (Unmap c.args.space c.args.page c.args.rights) = c.page_number-number.ensures
+    ∙ (page_checked sizes (tables c.args.b) c.requires c.args.space c.args.page c.args.rights 0
+    ∙ unmap_number sizes (tables c.args.b) c.args.space c.args.page c.args.rights) in
+    let b = tables c.args.b in
+    let y : ℕ = key sizes c.args.space c.args.page in
+    let frame : ℕ = c.lookup-end.result.frame in
+    c.withdrawn.ensures
+    ∙ (withdrawn_at sizes b _ c.args.rights _ _ _ frame c.taken_from-left.ensures.board c.taken_from-left.ensures.lost c.less_at.ensures
+    ∙ (ap (λ (l : List Bool). withdrawn_of sizes b (set l y false) c.args.rights (less_at b.summary frame (cut_lost sizes b.slots (set l y false) c.args.rights))) (c.line_has-below.ensures ∙ ap (line_has sizes b.slots) c.only.ensures)
+    ∙ unmap_done sizes _ _ _ _ _ numbered c.if-number-ne0.false frame c.lookup-end.ensures.frame))

@@ -1,0 +1,10 @@
+-- Made by tools/models.py from crates/entry_image/proofs/read/read_places/Answers.antt: change that file.
+-- `read_places` meets its contract: the goals that are left, from the invariant.
+use Rattle.premium_image.proofs as own
+use Rattle.lend_basics.proofs.Loops.{built_all}
+use Rattle.image.specs.Image.{places_in}
+use own.read.read_places.Goals as goal
+
+pub returns : goal.returns
+unfolding places_in
+returns c = built_all _ _ _ _ _ c.loop-i.invariant.0 c.loop-i-test.false

@@ -1,0 +1,17 @@
+-- Made by tools/models.py from crates/entry_script/proofs/run/run/Answers.antt: change that file.
+-- `run` meets its contract: a buffer that is too short, and one that is long enough.
+use Rattle.premium_script.proofs as own
+use native.Mathlib.Omega.{arith}
+use Rattle.script.specs.Bound.{output_bound}
+use Rattle.script.proofs.Parts.{ran_short, ran_whole}
+use Rattle.premium.specs.Sizes.{sizes}
+use own.run.run.Goals as goal
+
+pub returns-then-output-enough : goal.returns-then-output-enough
+returns-then-output-enough c = ran_short sizes _ _ c.enough.ensures c.if-output-enough.true
+
+pub returns : goal.returns
+unfolding output_bound
+returns c =
+    ran_whole sizes _ _ c.enough.ensures (omega arith) (omega (arith, c.if-output-enough.false)) c.start.ensures
+    c.run_first.ensures
