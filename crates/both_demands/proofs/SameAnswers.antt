@@ -1,18 +1,19 @@
 -- Whatever the two models' functions answer by their contracts, within Entry's limits they answer the same.
 use Prim.Native.Nat.{ℕ}
-use mathlib.Core.Path.{◌≡◌, refl, sym, subst}
+use mathlib.Core.Path.{◌≡◌, ◌∙◌, refl, sym, ap, subst}
 use mathlib.Core.Bool.{not}
 use mathlib.Core.List.{List, [], ◌++◌}
 use lib.Dec.{T, lit<, T_not}
 use lib.ListN.{length}
 use Rattle.lend.specs.Sizes.{entry, premium}
-use Rattle.lend.specs.Tables.{alone}
+use Rattle.lend.specs.Tables.{Tables, alone}
 use Rattle.lend.specs.Sound.{Sound}
 use Rattle.lend.specs.Calls.{Call, Translate, Load, Store, Outcome, step}
 use Rattle.lend.specs.Ranges.{RangeCall, RangeOutcome, range_step}
 use Rattle.lend_lending.proofs.Always.{step_sound}
 use Rattle.lend_lending.proofs.RangeCalls.{range_sound}
 use Rattle.lend_models.specs.Agreement.{in_limits, takes_memory, more_bytes, Agree}
+use Rattle.lend_models.specs.Embedding.{wide_slots, wide_live}
 use Rattle.lend_models.specs.RangeAgreement.{range_in_limits, RangeAgree}
 use Rattle.lend_models.proofs.Wide.{entry_fits}
 use Rattle.lend_models.proofs.SameCommand.{same_command}
@@ -58,8 +59,12 @@ module _ (rest memory : List ℕ) (b : small.Board) (c : large.Board) (both : To
       entry_sound = subst (Sound entry) is-d (rw is-small (step_sound entry (lit< tt) (beside b memory) both.entry_sound call));
       premium_sound =
           subst (Sound premium) is-e (rw is-large (step_sound premium (lit< tt) (wide_look.beside c (memory ++ rest)) both.premium_sound call));
-      slots_same = rw (sym is-d, sym is-e) both_agree.embeds_again.slots_same;
-      live_same = rw (sym is-d, sym is-e) both_agree.embeds_again.live_same;
+      slots_same =
+          sym (ap (λ (t : Tables). t.slots) is-e)
+          ∙ (both_agree.embeds_again.slots_same ∙ ap (λ (t : Tables). wide_slots entry premium t.slots) is-d);
+      live_same =
+          sym (ap (λ (t : Tables). t.live) is-e)
+          ∙ (both_agree.embeds_again.live_same ∙ ap (λ (t : Tables). wide_live entry premium t.live) is-d);
     },
   )
     where
@@ -110,7 +115,7 @@ module _ (b : small.Board) (c : large.Board) (both : Together b c) where
   -- unmap, flush, map and grant over ranges that name the same pages on both: the same number, done and count; the same offset where a page
   -- or the call is refused
   pub ranges_same : (call : RangeCall) → T (range_in_limits entry call) → (r : small_range.RangeAnswer) (s : large_range.RangeAnswer)
-      → range_outcome r ≡ range_step entry (alone (tables b)) call → wide_range.rangeOutcome s ≡ range_step premium (alone (wide.tables c)) call
+      → range_outcome r ≡ range_step entry (alone (tables b)) call → wide_range.range_outcome s ≡ range_step premium (alone (wide.tables c)) call
       → (s.number ≡ r.number) × (s.done ≡ r.done) × (s.emptied ≡ r.emptied) × ((r.number ≡ 0 → ⊥) → s.offset ≡ r.offset)
       × Together r.board s.board
   ranges_same call h r s is-r is-s =
@@ -127,7 +132,7 @@ module _ (b : small.Board) (c : large.Board) (both : Together b c) where
         },
       )
     where
-      ranges_agree : RangeAgree entry premium [] (range_outcome r) (wide_range.rangeOutcome s)
+      ranges_agree : RangeAgree entry premium [] (range_outcome r) (wide_range.range_outcome s)
       ranges_agree =
           rw (is-r, is-s)
           (same_range entry premium entry_fits (lit< tt) [] (alone (tables b)) (alone (wide.tables c)) both.entry_sound both.premium_sound
