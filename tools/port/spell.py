@@ -14,6 +14,8 @@ import sys
 
 # where the plain rule would meet another name, a tactic or a word of std
 SPECIAL = {"onLine": "is_on_line", "firstOf": "first_number", "first_of": "first_number", "K-wide": "K_wide"}
+# fields of records: the plain rule, though a definition that no file sees beside them has the word
+FIELDS = {"page-in": "page_in", "places-fit": "places_fit", "parent-space": "parent_space", "parent-page": "parent_page"}
 # lemmas that port.py had respelled already, and whose word is now the definition's that they speak of: the file, and the lemma's new name
 LEMMAS = {
     "crates/listing_laws/proofs/OneListing.antt": {"by_number": "by_number_law"},
@@ -89,7 +91,7 @@ def main():
         # a definition and the lemma about it: the lemma says so
         if len(ns) == 2 and sorted("-" in n for n in ns) == [False, True]:
             lemma = next(n for n in ns if "-" in n)
-            move[lemma] = to + "_law"
+            move[lemma] = FIELDS.get(lemma, to + "_law")
             ns = [n for n in ns if n != lemma]
             if tokens[to + "_law"]:
                 bad.append((to + "_law", [lemma], tokens[to + "_law"]))
@@ -113,6 +115,8 @@ def main():
     for p, t in texts.items():
         kept = imported(t) | goals[p]
         laws = LEMMAS.get(p, {})
+        # modules that the file has under a short name
+        aliases = [a for a in re.findall(r"(?m)^use \S+ as ([\w-]+)$", t) if a != "tie"]
 
         def turn(m):
             name = m.group(1)
@@ -123,7 +127,7 @@ def main():
             if name not in move or name in kept:
                 return name
             before = t[m.start() - 1] if m.start() else " "
-            if before == "." and name not in fields and not re.search(r"(Rattle|own|spec)[\w.]*$", t[max(0, m.start() - 80):m.start() - 1]):
+            if before == "." and name not in fields and not re.search(r"(?<![\w.])(" + "|".join(["Rattle"] + aliases) + r")[\w.-]*$", t[max(0, m.start() - 80):m.start() - 1]):
                 return name
             return move[name]
 

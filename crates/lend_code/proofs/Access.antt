@@ -31,7 +31,7 @@ use Rattle.lend_basics.proofs.Bools.{or_cases, not_or, true_is}
 use Rattle.lend_sound.proofs.SoundTest.{test_sound}
 use Rattle.lend_laws.proofs.Accepted.{accepted, refused, tested}
 use Rattle.lend_lending.proofs.Frames.{frame_held}
-use Rattle.lend_lending.proofs.Insert.{hit_place, page_in_law, ReadFine, translate_fine, load_fine, store_fine}
+use Rattle.lend_lending.proofs.Insert.{hit_place, page_in, ReadFine, translate_fine, load_fine, store_fine}
 use Rattle.lend_code.specs.Inner.{up_of, inside_of, frame_in, link_in}
 use Rattle.lend_code.specs.Access.{place_after, access_number, Look, look_if, look_at, counted_of, byte_at}
 use Rattle.lend_code.proofs.Fits.{inside_key}
@@ -180,7 +180,7 @@ module _ (z : Sizes) (b : Tables) (space address rights : ℕ) where
       go false es true ea = refl
       go false es false ea =
           ap (λ (k : ℕ). cond (not_live b space) 4 (cond (bad_rights rights) 6 (from_slot k)))
-          (inside_key z space (address_page address) (nleb→lt z.spaces space (rw es tt)) (page_in_law z address (nleb→lt (memory_bytes z) address (rw ea tt))))
+          (inside_key z space (address_page address) (nleb→lt z.spaces space (rw es tt)) (page_in z address (nleb→lt (memory_bytes z) address (rw ea tt))))
 
 translate_number : (z : Sizes) (b : Tables) (space address rights : ℕ)
     → access_number z b true space address rights ≡ number z (alone b) (Translate space address rights)
@@ -204,7 +204,7 @@ module _ (z : Sizes) (st : State) (space address : ℕ) where
 -- what an accepted call may rely on: numbers in range, a look that is that of the rules, and a frame that is there
 pub record Accessible (z : Sizes) (b : Tables) (space address : ℕ) : Type 0 where
   pub space_in : space < z.spaces
-  pub page_in_law : address_page address < z.pages
+  pub page_in : address_page address < z.pages
   pub look_right : look_at z b space (address_page address)
       ≡ record {
         board = looked z b space address;
@@ -251,7 +251,7 @@ module _ (z : Sizes) (b : Tables) (sound : Sound z b) (space address rights : �
   look_is = go (cached space (address_page address) b.places) refl
     where
       same : inside_of z (page_at z space address) ≡ page_at z space address
-      same = inside_key z space (address_page address) fine.space_in (page_in_law z address fine.address_in)
+      same = inside_key z space (address_page address) fine.space_in (page_in z address fine.address_in)
 
       go : (t : Bool) → cached space (address_page address) b.places ≡ t → look_if t z b space (address_page address)
           ≡ record {
@@ -294,7 +294,7 @@ module _ (z : Sizes) (b : Tables) (sound : Sound z b) (space address rights : �
   accessible : Accessible z b space address
   accessible = record {
     space_in = fine.space_in;
-    page_in_law = page_in_law z address fine.address_in;
+    page_in = page_in z address fine.address_in;
     look_right = look_is;
     frame_in_law = λ {l} e. let s : l.frame ≡ frame_of z (table_of b) (page_at z space address) = ap (λ (k : Look). k.frame) (e ∙ look_is) in omega (arith, its_frame);
   }

@@ -90,7 +90,7 @@ module _ (z : Sizes) (b : Tables) (s p d n : ℕ) (is : n ≡ number z (alone b)
 
 -- the page that an accepted call names is in the table
 pub named_in : {z : Sizes} {b : Tables} {s p d : ℕ} → PageFine z b s p d → key z s p < slot_count z
-named_in {z = z} {s = s} {p = p} fine = key_in z s p fine.space_in fine.page_in_law
+named_in {z = z} {s = s} {p = p} fine = key_in z s p fine.space_in fine.page_in
 
 -- ── create and delete ────────────────────────────────────────────────────
 module _ (z : Sizes) (b : Tables) (s n : ℕ) (is : n ≡ number z (alone b) (Create s)) (done : n ≡ 0) where

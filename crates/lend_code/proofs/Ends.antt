@@ -27,7 +27,7 @@ less_one n = omega arith
 pub record LentBy (z : Sizes) (f : Table) (k s p : ℕ) : Type 0 where
   pub outside : T (not (in_pool z k))
   pub space_in : s < z.spaces
-  pub page_in_law : p < z.pages
+  pub page_in : p < z.pages
   pub parent_held : T (held (f (key z s p)))
 
 module _ (z : Sizes) (b : List Slot) (fit : Fitting z b) where
@@ -38,7 +38,7 @@ module _ (z : Sizes) (b : List Slot) (fit : Fitting z b) where
       record {
         outside = search (and_l, and_r) depth 12;
         space_in = ltb→lt s z.spaces (search (and_l, and_r) depth 12);
-        page_in_law = ltb→lt p z.pages (search (and_l, and_r) depth 12);
+        page_in = ltb→lt p z.pages (search (and_l, and_r) depth 12);
         parent_held = search (and_l, and_r) depth 12;
       }
 
@@ -170,7 +170,7 @@ module _ (z : Sizes) (b : List Slot) where
         at_suc n (Frame i) e v = (refl, rw e)
         at_suc n (Page s p) e v =
             let l = fit_page z b w.fitting at s p (w.at_in h) e in
-            let i = key_in z s p l.space_in l.page_in_law in
+            let i = key_in z s p l.space_in l.page_in in
             absurd (omega arith)
 
         fuel : left ≡ suc (left - 1)

@@ -199,7 +199,7 @@ module _ (z : Sizes) (b : Tables) (s p u v r : ℕ) (shut : Bool) (fine : NamedF
   source_fine (Frame i) e = (giver_in fine, giver_on)
   source_fine (Page x y) e =
       let c = fine.sound.pages.lent (key z s p) x y e in (
-        key_in z x y c.space_in c.page_in_law,
+        key_in z x y c.space_in c.page_in,
         rw (line_step z b.live (table_of b) fine.sound.shape.live_long fine.sound.pages (key z s p) x y e)
             (or_r (eqb (key z s p) (key z x y)) (is_on_line z (table_of b) (key z x y) (key z x y))
             (line_self z b.live (table_of b) fine.sound.shape.live_long fine.sound.pages (key z x y))),

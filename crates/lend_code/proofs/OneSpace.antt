@@ -133,12 +133,12 @@ module _ (z : Sizes) (b : List Slot) (source space but : ℕ) where
 
   module _ {page at left : ℕ} (w : Seeking page at left) where
     -- the page whose line is walked is in the table
-    page_in_law : page < z.pages → key z space page < slot_count z
-    page_in_law h = key_in z space page w.space_in h
+    page_in : page < z.pages → key z space page < slot_count z
+    page_in h = key_in z space page w.space_in h
 
     -- a read by the walk is in the table
     pub seeking_in : page < z.pages → at < slot_count z
-    seeking_in h = w.walking.at_in (page_in_law h)
+    seeking_in h = w.walking.at_in (page_in h)
 
     -- it is over where the walk along the lines of all pages stops
     stops_same : page < z.pages → (up : ℕ) → stops z b (only_page z source) at up left ≡ over at up left
@@ -149,10 +149,10 @@ module _ (z : Sizes) (b : List Slot) (source space but : ℕ) where
         → has below_source (key z space page) ≡ eqb at source
     settled up h u t =
         let k = key z space page in
-        let next = walking_next z b (only_page z source) below_source k at left up w.walking (page_in_law h) u (stops_same h up ∙ t) in
-        line_has_at z b (only_page z source) k (page_in_law h)
+        let next = walking_next z b (only_page z source) below_source k at left up w.walking (page_in h) u (stops_same h up ∙ t) in
+        line_has_at z b (only_page z source) k (page_in h)
         ∙ (sym (next.built.done k (omega arith))
-        ∙ (get_or-set_same below_source k (has (only_page z source) at) false (omega (arith, line_has_long z b (only_page z source), page_in_law h)) ∙ only_at at (seeking_in h)))
+        ∙ (get_or-set_same below_source k (has (only_page z source) at) false (omega (arith, line_has_long z b (only_page z source), page_in h)) ∙ only_at at (seeking_in h)))
 
     -- the source is on the line of a page that counts
     pub seeking_found : page < z.pages → found page at ≡ true → true ≡ other_in z below_source space but
@@ -170,7 +170,7 @@ module _ (z : Sizes) (b : List Slot) (source space but : ℕ) where
       space_in = w.space_in;
       failed = failed_more _ page w.failed (ap (λ (on : Bool). on && not (eqb (key z space page) but)) (settled up h u t) ∙ vain);
       walking =
-          walk_from (key z space (page + 1)) (key z space page + 1) (omega arith) (omega (arith, page_in_law h)) w.walking.slots_long
+          walk_from (key z space (page + 1)) (key z space page + 1) (omega arith) (omega (arith, page_in h)) w.walking.slots_long
           (omega (arith, w.walking.some_left, w.walking.left_in));
     }
 

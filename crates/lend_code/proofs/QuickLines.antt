@@ -76,7 +76,7 @@ module _ (z : Sizes) (b : List Slot) (fit : Fitting z b) (one : 1 ≤ z.spaces) 
             rw e
             (and_i (not (member (space_of z k) (map (space_of z) (line z (slot_at b) n (key z s p))))) _
             (rw (any_map (space_of z) (λ y. eqb y (space_of z k)) (line z (slot_at b) n (key z s p))) apart)
-            (ih (key z s p) (omega arith) (key_in z s p f.space_in f.page_in_law)))
+            (ih (key z s p) (omega arith) (key_in z s p f.space_in f.page_in)))
           where
             apart : T (not (any (λ q. eqb (space_of z q) (space_of z k)) (line z (slot_at b) n (key z s p))))
             apart = not_T (any (λ q. eqb (space_of z q) (space_of z k)) (line z (slot_at b) n (key z s p)))

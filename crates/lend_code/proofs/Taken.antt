@@ -105,8 +105,8 @@ entry_dropped z f c next sound t u v hv =
     other j apart true e true g =
         let w = sound.filled_names j (rw g tt) in
         let q : page_named z (place_at c j) ≡ key z u v = eqb→eq (page_named z (place_at c j)) (key z u v) (rw e tt) in
-        let es : (place_at c j).space ≡ u = key_space z (place_at c j).space (place_at c j).page u v w.page_in_law hv q in
-        let ep : (place_at c j).page ≡ v = key_page z (place_at c j).space (place_at c j).page u v w.page_in_law hv q in
+        let es : (place_at c j).space ≡ u = key_space z (place_at c j).space (place_at c j).page u v w.page_in hv q in
+        let ep : (place_at c j).page ≡ v = key_page z (place_at c j).space (place_at c j).page u v w.page_in hv q in
         absurd (apart (sym (place_for_law z f c next sound j (rw g tt)) ∙ rw (es, ep)))
 
     at : (j : ℕ) → j < length c → Dec (j ≡ i) → kept t (place_at (dropped c i) j) ≡ kept both (place_at c j)

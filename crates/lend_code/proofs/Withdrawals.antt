@@ -210,8 +210,8 @@ module _ (z : Sizes) (b : Tables) (sound : Sound z b) where
           ∙ (reached_has z b.slots y k hy hk ∙ sym (rw (ne_eqb k y e) (and_true (is_on_line z (table_of b) k y))))
 
   -- the page that is named is in the table
-  page_in_law : (s p d : ℕ) → PageFine z b s p d → key z s p < slot_count z
-  page_in_law s p d fine = key_in z s p fine.space_in fine.page_in_law
+  page_in : (s p d : ℕ) → PageFine z b s p d → key z s p < slot_count z
+  page_in s p d fine = key_in z s p fine.space_in fine.page_in
 
   -- ── unmap ──────────────────────────────────────────────────────────────
   module _ (s p d : ℕ) (fine : PageFine z b s p d) (frame : ℕ) (is-frame : frame ≡ frame_of z (table_of b) (key z s p)) where
@@ -221,7 +221,7 @@ module _ (z : Sizes) (b : Tables) (sound : Sound z b) where
     unmapped_cut : (k : ℕ) → k < slot_count z → slot_at (unmapped z y d b.slots) k ≡ cut (cond (has (below_set z b.slots y) k) d 0) (table_of b k)
     unmapped_cut k h =
         unmapped_at z b.live b.slots live_long sound.pages y d k
-        ∙ ap (λ (t : Bool). cut (cond t d 0) (table_of b k)) (sym (below_has y k (page_in_law s p d fine) h))
+        ∙ ap (λ (t : Bool). cut (cond t d 0) (table_of b k)) (sym (below_has y k (page_in s p d fine) h))
 
     unmapped_stays : SoundPages z b.live (slot_at (unmapped z y d b.slots))
     unmapped_stays = unmapped_sound z b.live b.slots live_long sound.pages y d fine.known_rights
@@ -239,7 +239,7 @@ module _ (z : Sizes) (b : Tables) (sound : Sound z b) where
       flushed_cut : (k : ℕ) → k < slot_count z → slot_at (flushed z y d b.slots) k ≡ cut (cond (has (line_set z b.slots y) k) d 0) (table_of b k)
       flushed_cut k h =
           flushed_at z b.live b.slots live_long sound.pages y d k
-          ∙ ap (λ (t : Bool). cut (cond t d 0) (table_of b k)) (sym (reached_has z b.slots y k (page_in_law s p d fine) h))
+          ∙ ap (λ (t : Bool). cut (cond t d 0) (table_of b k)) (sym (reached_has z b.slots y k (page_in s p d fine) h))
 
       flushed_stays : SoundPages z b.live (slot_at (flushed z y d b.slots))
       flushed_stays = flushed_sound z b.live b.slots live_long sound.pages y d (out_of_pool z s p out) fine.known_rights

@@ -117,7 +117,7 @@ grant_withdraws z st from page to at rights e =
     let sound = test_sound z st.board (tested z st (Grant from page to at rights) e) in
     let a = handed_on_law z st.board sound from page to at rights fine.lendable fine.giver_out in
     rw (accepted z st (Grant from page to at rights) e, a.is)
-    (given_away z st.board sound from page to at rights fine.lendable a.parent_space_law a.parent_page_law a.parent_is a.lendable)
+    (given_away z st.board sound from page to at rights fine.lendable a.parent_space a.parent_page a.parent_is a.lendable)
 
 -- after any list of calls whatever, a page that translates, hit or miss, does so to the frame at the end of its line on the board as it is
 pub translates_now : (z : Sizes) (st : State) (cs : List Call) (space address rights : ℕ) → number z (steps z st cs) (Translate space address rights) ≡ 0

@@ -87,7 +87,7 @@ pub record DeleteFine (z : Sizes) (b : Tables) (s : ℕ) : Type 0 where
 pub record PageFine (z : Sizes) (b : Tables) (s p d : ℕ) : Type 0 where
   pub space_in : s < z.spaces
   pub is_alive : T (alive b.live s)
-  pub page_in_law : p < z.pages
+  pub page_in : p < z.pages
   pub some_right : 1 ≤ d
   pub known_rights : d < 8
 
@@ -134,7 +134,7 @@ module _ (z : Sizes) (st : State) where
       record {
         space_in = nleb→lt z.spaces s n.0;
         is_alive = not_not (alive st.board.live s) n.1.0;
-        page_in_law = nleb→lt z.pages p n.1.1.0;
+        page_in = nleb→lt z.pages p n.1.1.0;
         some_right = positive d o.0;
         known_rights = omega arith;
       }
@@ -149,7 +149,7 @@ module _ (z : Sizes) (st : State) where
         record {
           space_in = nleb→lt z.spaces s n.0;
           is_alive = not_not (alive st.board.live s) n.1.0;
-          page_in_law = nleb→lt z.pages p n.1.1.0;
+          page_in = nleb→lt z.pages p n.1.1.0;
           some_right = positive d o.0;
           known_rights = omega arith;
         },

@@ -93,7 +93,7 @@ module _ (z : Sizes) (live : List Bool) (f : Table) (sound : SoundPages z live f
       let still : T (held (withdraw a f (page_named z q))) = still_held (page_named z q) n.is_held h in
       record {
         space_in = n.space_in;
-        page_in_law = n.page_in_law;
+        page_in = n.page_in;
         is_held = still;
         its_frame = n.its_frame ∙ sym (frame_of_kept z live f sound a closed (page_named z q) still);
         its_rights = n.its_rights ∙ rights_kept (page_named z q) h;

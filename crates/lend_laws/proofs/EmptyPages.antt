@@ -117,7 +117,7 @@ module _ (z : Sizes) (st : State) (sound : Sound z st.board) (s p d : ℕ) (fine
         is_true (sound_test z st.board) (sound_test_law z st.board sound),
         not_past z.spaces s fine.space_in,
         is_true (alive st.board.live s) fine.is_alive,
-        not_past z.pages p fine.page_in_law,
+        not_past z.pages p fine.page_in,
         not_bad d fine.some_right fine.known_rights,
       ) e
 

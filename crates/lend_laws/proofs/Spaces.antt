@@ -181,7 +181,7 @@ more_live z live more f h sound = record {
       let c = sound.lent k s p e in
       record {
         space_in = c.space_in;
-        page_in_law = c.page_in_law;
+        page_in = c.page_in;
         space_live = h s c.space_live;
         parent_held = c.parent_held;
         some_right = c.some_right;
@@ -223,7 +223,7 @@ delete_live z live f s s2 gone sound = record {
         let c = sound.lent k x p e in
         record {
           space_in = c.space_in;
-          page_in_law = c.page_in_law;
+          page_in = c.page_in;
           space_live = rw (get_or-set_other live s x false false (apart c)) c.space_live;
           parent_held = c.parent_held;
           some_right = c.some_right;
@@ -232,4 +232,4 @@ delete_live z live f s s2 gone sound = record {
         }
       where
         apart : Lent z live f k x p → x ≡ s → ⊥
-        apart c q = let h : T (held empty_slot) = rw (gone (key z x p) (space_of_key z x p c.page_in_law ∙ q)) at c.parent_held in h
+        apart c q = let h : T (held empty_slot) = rw (gone (key z x p) (space_of_key z x p c.page_in ∙ q)) at c.parent_held in h

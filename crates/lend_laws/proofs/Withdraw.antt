@@ -227,7 +227,7 @@ module _ (z : Sizes) (live : List Bool) (f : Table) (sound : SoundPages z live f
           let c = sound.lent k s p e' in
           record {
             space_in = c.space_in;
-            page_in_law = c.page_in_law;
+            page_in = c.page_in;
             space_live = c.space_live;
             parent_held = parent_kept k s p e' g;
             some_right = left_pos k g;

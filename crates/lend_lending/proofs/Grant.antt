@@ -72,7 +72,7 @@ parent_lendable z live f len sound s p u v r m x y e = record {
   taker_space = m.taker_space;
   giver_live = c.space_live;
   taker_live = m.taker_live;
-  giver_page = c.page_in_law;
+  giver_page = c.page_in;
   taker_page = m.taker_page;
   some_right = m.some_right;
   known_rights = m.known_rights;
@@ -179,14 +179,14 @@ granted_is z g t r b s p e = rw e
 
 -- what a grant does to the slots: a map to the taker from the giver's parent, and then a flush of the giver
 pub record HandedOn (z : Sizes) (b : Tables) (s p u v r : ℕ) : Type 0 where
-  pub parent_space_law : ℕ
-  pub parent_page_law : ℕ
-  pub parent_is : (table_of b (key z s p)).link ≡ Page parent_space_law parent_page_law
-  pub lendable : Lendable z b.live (table_of b) parent_space_law parent_page_law u v r
+  pub parent_space : ℕ
+  pub parent_page : ℕ
+  pub parent_is : (table_of b (key z s p)).link ≡ Page parent_space parent_page
+  pub lendable : Lendable z b.live (table_of b) parent_space parent_page u v r
   pub giver_out : z.pages ≤ key z s p
   pub loss_small : giver_loses r < 8
   pub is : granted z (key z s p) (key z u v) r b.slots
-      ≡ flushed z (key z s p) (giver_loses r) (mapped z parent_space_law parent_page_law (key z u v) r b.slots)
+      ≡ flushed z (key z s p) (giver_loses r) (mapped z parent_space parent_page (key z u v) r b.slots)
 
 -- every accepted grant does that
 pub handed_on_law : (z : Sizes) (b : Tables) → Sound z b → (s p u v r : ℕ) → Lendable z b.live (table_of b) s p u v r → 1 ≤ s
@@ -194,8 +194,8 @@ pub handed_on_law : (z : Sizes) (b : Tables) → Sound z b → (s p u v r : ℕ)
 handed_on_law z b sound s p u v r m out =
     let l = lent_by z b.live (table_of b) sound.pages (key z s p) (out_of_pool z s p out) m.giver_held in
     record {
-      parent_space_law = l.0;
-      parent_page_law = l.1;
+      parent_space = l.0;
+      parent_page = l.1;
       parent_is = l.2;
       lendable = parent_lendable z b.live (table_of b) sound.shape.live_long sound.pages s p u v r m l.0 l.1 l.2;
       giver_out = out_of_pool z s p out;
@@ -211,8 +211,8 @@ grant_sound z b sound s p u v r m out = go (handed_on_law z b sound s p u v r m 
   where
     go : HandedOn z b s p u v r → Sound z (with_slots z b (granted z (key z s p) (key z u v) r b.slots) (λ k. eqb k (key z u v)))
     go h =
-        let x : ℕ = h.parent_space_law in
-        let y : ℕ = h.parent_page_law in
+        let x : ℕ = h.parent_space in
+        let y : ℕ = h.parent_page in
         subst (λ (new : List Slot). Sound z (with_slots z b new (λ k. eqb k (key z u v)))) (sym h.is)
         (taken_sound z b sound (flushed z (key z s p) (giver_loses r) (mapped z x y (key z u v) r b.slots)) (key z u v)
         (length_flushed z (key z s p) (giver_loses r) (mapped z x y (key z u v) r b.slots) ∙ length_mapped z x y (key z u v) r b.slots)

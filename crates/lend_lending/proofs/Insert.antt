@@ -121,9 +121,9 @@ insert_sound z f c next q len n t miss sound = record {
     -- no other place names the page
     alone : (i : ℕ) → T (filled (place_at c i)) → page_named z (place_at c i) ≡ page_named z q → ⊥
     alone i h e =
-        let v = (sound.filled_names i h).page_in_law in
-        miss_none q.space q.page c miss i h (key_space z (place_at c i).space (place_at c i).page q.space q.page v n.page_in_law e)
-        (key_page z (place_at c i).space (place_at c i).page q.space q.page v n.page_in_law e)
+        let v = (sound.filled_names i h).page_in in
+        miss_none q.space q.page c miss i h (key_space z (place_at c i).space (place_at c i).page q.space q.page v n.page_in e)
+        (key_page z (place_at c i).space (place_at c i).page q.space q.page v n.page_in e)
 
     empty_form : (i : ℕ) → T (not (filled (place_at d i))) → Dec (i ≡ goes_to c next) → place_at d i ≡ empty_place
     empty_form i h (yes e) = absurd (T_not (filled q) (rw (e, same) at h) t)
@@ -142,8 +142,8 @@ insert_sound z f c next q len n t miss sound = record {
 
 -- ── a look at a page ─────────────────────────────────────────────────────
 -- an address in range is on a page in range
-pub page_in_law : (z : Sizes) (address : ℕ) → address < memory_bytes z → address_page address < z.pages
-page_in_law z address h = (div-lt_iff_lt-mul (lit< tt)).1 l
+pub page_in : (z : Sizes) (address : ℕ) → address < memory_bytes z → address_page address < z.pages
+page_in z address h = (div-lt_iff_lt-mul (lit< tt)).1 l
   where
     l : address < z.pages * page_bytes
     l = omega arith
@@ -151,7 +151,7 @@ page_in_law z address h = (div-lt_iff_lt-mul (lit< tt)).1 l
 -- the entry of a held page names it
 entry_names : (z : Sizes) (b : Tables) → Sound z b → (space page : ℕ) → page < z.pages → T (held (table_of b (key z space page)))
     → Names z (table_of b) (entry_of z b space page)
-entry_names z b sound space page l h = record { space_in = in_spaces; page_in_law = l; is_held = h; its_frame = refl; its_rights = refl }
+entry_names z b sound space page l h = record { space_in = in_spaces; page_in = l; is_held = h; its_frame = refl; its_rights = refl }
   where
     in_spaces : space < z.spaces
     in_spaces =
@@ -183,7 +183,7 @@ looked_sound z b sound space address l h = go (cached space (address_page addres
       };
       pages = sound.pages;
       cache = insert_sound z (table_of b) b.places b.next q sound.shape.places_long
-          (entry_names z b sound space (address_page address) (page_in_law z address l) h) full e sound.cache;
+          (entry_names z b sound space (address_page address) (page_in z address l) h) full e sound.cache;
       summary = sound.summary;
     }
 

@@ -190,7 +190,7 @@ module _ (z : Sizes) (live : List Bool) (b : List Slot) (len : length live ≡ z
     taker_out = out_of_pool z u v m.taker_out;
     taker_live = rw (space_of_key z u v m.taker_page) m.taker_live;
     space_in = m.giver_space;
-    page_in_law = m.giver_page;
+    page_in = m.giver_page;
     space_live = m.giver_live;
     giver_held = giver_still;
     some_right = m.some_right;

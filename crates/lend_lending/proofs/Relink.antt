@@ -59,7 +59,7 @@ module _ (z : Sizes) (live : List Bool) (f : Table) (len : length live ≡ z.spa
   pub held_names : (q : Place) → Names z f q → Names z (relink t x f) q
   held_names q n = record {
     space_in = n.space_in;
-    page_in_law = n.page_in_law;
+    page_in = n.page_in;
     is_held = rw (held_same (page_named z q) n.is_held) n.is_held;
     its_frame = n.its_frame ∙ sym (held_frame z.spaces (page_named z q) n.is_held);
     its_rights = n.its_rights ∙ ap (λ (y : Slot). y.rights) (sym (held_same (page_named z q) n.is_held));
@@ -72,7 +72,7 @@ pub record Linkable (z : Sizes) (live : List Bool) (f : Table) (t s p r : ℕ) :
   pub taker_out : z.pages ≤ t
   pub taker_live : T (alive live (space_of z t))
   pub space_in : s < z.spaces
-  pub page_in_law : p < z.pages
+  pub page_in : p < z.pages
   pub space_live : T (alive live s)
   pub giver_held : T (held (f (key z s p)))
   pub some_right : 1 ≤ r
@@ -116,7 +116,7 @@ module _ (z : Sizes) (live : List Bool) (f : Table) (len : length live ≡ z.spa
   taker_lent : Lent z live after t s p
   taker_lent = record {
     space_in = c.space_in;
-    page_in_law = c.page_in_law;
+    page_in = c.page_in;
     space_live = c.space_live;
     parent_held = rw (was (key z s p) c.giver_held) c.giver_held;
     some_right = rw same c.some_right;
@@ -160,7 +160,7 @@ module _ (z : Sizes) (live : List Bool) (f : Table) (len : length live ≡ z.spa
           let x = sound.lent k u v (rw (other k q) at e) in
           record {
             space_in = x.space_in;
-            page_in_law = x.page_in_law;
+            page_in = x.page_in;
             space_live = x.space_live;
             parent_held = rw (was (key z u v) x.parent_held) x.parent_held;
             some_right = rw (other k q) x.some_right;

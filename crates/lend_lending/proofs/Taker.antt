@@ -146,11 +146,11 @@ module _ (z : Sizes) (b : Tables) (sound : Sound z b) (s p u v r : ℕ) (a : Han
       → slot_at (granted z (key z s p) (key z u v) r b.slots) k ≡ empty_slot
   granted_below k h =
       ap (λ (l : List Slot). slot_at l k) a.is
-      ∙ handed_below z b sound a.parent_space_law a.parent_page_law u v r a.lendable (key z s p) (giver_loses r) k h
+      ∙ handed_below z b sound a.parent_space a.parent_page u v r a.lendable (key z s p) (giver_loses r) k h
 
   -- a held page other than the taker has its link
   pub granted_link : (k : ℕ) → T (not (eqb k (key z u v))) → T (held (slot_at (granted z (key z s p) (key z u v) r b.slots) k))
       → (slot_at (granted z (key z s p) (key z u v) r b.slots) k).link ≡ (table_of b k).link
   granted_link =
       rw a.is
-      (handed_link z b sound a.parent_space_law a.parent_page_law u v r a.lendable (key z s p) (giver_loses r))
+      (handed_link z b sound a.parent_space a.parent_page u v r a.lendable (key z s p) (giver_loses r))

@@ -21,7 +21,7 @@ use Rattle.lend.specs.Translate.{address_page, hit, entry_of, with_entry, looked
 use Rattle.lend.specs.Calls.{Call, Create, Delete, Unmap, Flush, Map, Grant, Translate, Load, Store, with_slots, no_taker, board_after}
 use Rattle.lend_basics.proofs.Bools.{and_r, not_not}
 use Rattle.lend_lending.proofs.Map.{key_in}
-use Rattle.lend_lending.proofs.Insert.{page_in_law}
+use Rattle.lend_lending.proofs.Insert.{page_in}
 use Rattle.lend_models.specs.Embedding.{Fits, wide_slots, wide_live, wide_places, wide}
 use Rattle.lend_models.specs.Agreement.{is_page, is_address, in_limits, replaces, gives_way}
 use Rattle.lend_models.proofs.Wide.{key_widened, wide_at}
@@ -50,7 +50,7 @@ module _ (z w : Sizes) (fits : Fits z w) (some_page : 1 ≤ z.pages) where
 module _ (z w : Sizes) (fits : Fits z w) (some_page : 1 ≤ z.pages) (b : Tables) (sound : Sound z b) where
   -- the smaller cache is no longer than the larger one
   fit : length b.places ≤ w.places
-  fit = omega (arith, fits.places_fit_law, sound.shape.places_long)
+  fit = omega (arith, fits.places_fit, sound.shape.places_long)
 
   -- the same entries go when the slots become those of the smaller board made wide, and the takers are the same
   drop_same : (new : List Slot) (small large : ℕ → Bool) → ((s p : ℕ) → p < z.pages → large (key w s p) ≡ small (key z s p))
@@ -58,7 +58,7 @@ module _ (z w : Sizes) (fits : Fits z w) (some_page : 1 ≤ z.pages) (b : Tables
   drop_same new small large takers =
       dropped_wide z w (λ k. lost_right (table_of b) (slot_at new) k || small k)
       (λ k. lost_right (slot_at (wide_slots z w b.slots)) (slot_at (wide_slots z w new)) k || large k) b.places fit sound.cache.empty_form
-      (λ i h. let n = sound.cache.filled_names i h in at (place_at b.places i).space (place_at b.places i).page n.space_in n.page_in_law)
+      (λ i h. let n = sound.cache.filled_names i h in at (place_at b.places i).space (place_at b.places i).page n.space_in n.page_in)
     where
       at : (s p : ℕ) → s < z.spaces → p < z.pages
           → (lost_right (slot_at (wide_slots z w b.slots)) (slot_at (wide_slots z w new)) (key w s p) || large (key w s p))
@@ -101,7 +101,7 @@ module _ (z w : Sizes) (fits : Fits z w) (some_page : 1 ≤ z.pages) (b : Tables
           ≡ wide z w (cond t b (with_entry b q))
       go true h = refl
       go false h =
-          let e = entry_same space (address_page address) (page_in_law z address la) in
+          let e = entry_same space (address_page address) (page_in z address la) in
           let r : T (any_empty b.places) = not_not (any_empty b.places) h in
           ap (with_entry (wide z w b)) e
           ∙ (λ i. record {

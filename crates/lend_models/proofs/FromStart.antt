@@ -28,7 +28,7 @@ module _ (z w : Sizes) (fits : Fits z w) (two : 2 ≤ z.spaces) (some_page : 1 �
   agree_from_start =
       let e = wide_start z w fits two some_page in
       same_commands z w fits some_page rest (start_state z memory) (start_state w (memory ++ rest)) (start_sound z two one)
-      (start_sound w (omega (arith, fits.spaces_fit)) (omega (arith, fits.places_fit_law)))
+      (start_sound w (omega (arith, fits.spaces_fit)) (omega (arith, fits.places_fit)))
       (record { slots_same = sym (ap (λ (b : Tables). b.slots) e); live_same = sym (ap (λ (b : Tables). b.live) e); memory_same = refl }) cs l more
 
   module _ (none : NoneReplaced z (start_state z memory) cs) where

@@ -27,7 +27,7 @@ use Rattle.lend_laws.proofs.Emptied.{looked_slots, emptied_counts}
 use Rattle.lend_laws.proofs.Spaces.{out_of_pool}
 use Rattle.lend_lending.proofs.Map.{key_in, mapped_sound}
 use Rattle.lend_lending.proofs.Grant.{GrantFine, grant_fine, lent_by, parent_lendable}
-use Rattle.lend_lending.proofs.Insert.{page_in_law, translate_fine, load_fine, store_fine}
+use Rattle.lend_lending.proofs.Insert.{page_in, translate_fine, load_fine, store_fine}
 use Rattle.lend_lending.proofs.Always.{step_sound}
 use Rattle.lend_models.specs.Embedding.{Fits, wide_slots, wide_live, wide_summary}
 use Rattle.lend_models.specs.Agreement.{in_limits, all_in_limits, is_page, is_address, takes_memory, any_memory, more_bytes, Embeds, Agree, AllAgree}
@@ -79,7 +79,7 @@ module _ (z w : Sizes) (fits : Fits z w) (some_page : 1 ≤ z.pages) (rest : Lis
   pub physical_same : (s a : ℕ) → a < memory_bytes z → physical w (grown z w rest st places next).board s a ≡ physical z st.board s a
   unfolding physical
   physical_same s a h =
-      rw (frame_same z w fits some_page st.board.live st.board.slots sound.shape.live_long sound.shape.slots_long sound.pages s (address_page a) (page_in_law z a h))
+      rw (frame_same z w fits some_page st.board.live st.board.slots sound.shape.live_long sound.shape.slots_long sound.pages s (address_page a) (page_in z a h))
 
   -- the slots after an accepted grant are the same
   grant_slots : (s p u v r : ℕ) → T (is_page z s p && is_page z u v) → GrantFine z st.board s p u v r
@@ -181,7 +181,7 @@ module _ (z w : Sizes) (fits : Fits z w) (some_page : 1 ≤ z.pages) (rest : Lis
   links_after (Grant s p u v r) h e = refl
   links_after (Translate s a r) h e =
       links_same z w fits some_page st.board.live st.board.slots sound.shape.live_long sound.shape.slots_long sound.pages s (address_page a)
-      (page_in_law z a (limit_address z s a h)) (translate_fine z st s a r e).is_held
+      (page_in z a (limit_address z s a h)) (translate_fine z st s a r e).is_held
   links_after (Load s a) h e = refl
   links_after (Store s a byte) h e = refl
 

@@ -24,7 +24,7 @@ use Rattle.lend.specs.Numbers.{no_space, no_page, no_address, source_below_taker
 use Rattle.lend.specs.Calls.{Call, Create, Delete, Unmap, Flush, Map, Grant, Translate, Load, Store, lending_cases, memory_cases, cases, number}
 use Rattle.lend_basics.proofs.Bools.{and_l, and_r, is_true, and_false}
 use Rattle.lend_sound.proofs.SoundTest.{sound_test_law}
-use Rattle.lend_lending.proofs.Insert.{page_in_law}
+use Rattle.lend_lending.proofs.Insert.{page_in}
 use Rattle.lend_models.specs.Embedding.{Fits, wide_slots, wide_live, wide_summary}
 use Rattle.lend_models.specs.Agreement.{in_limits, is_page, is_address, takes_memory, more_bytes}
 use Rattle.lend_models.proofs.Wide.{widen, key_widened, space_of_widened, wide_live_at}
@@ -194,7 +194,7 @@ module _ (z w : Sizes) (fits : Fits z w) (some_page : 1 ≤ z.pages) (rest : Lis
         space_same z w fits s (limit_address_space z s a h),
         live_in s,
         address_same z w fits a (limit_address z s a h),
-        slot_in_law s (address_page a) (page_in_law z a (limit_address z s a h)),
+        slot_in_law s (address_page a) (page_in z a (limit_address z s a h)),
       )
 
   -- every call within the limits has the same cases
@@ -219,7 +219,7 @@ module _ (z w : Sizes) (fits : Fits z w) (some_page : 1 ≤ z.pages) (rest : Lis
         space_same z w fits s (limit_address_space z s a h),
         live_in s,
         address_same z w fits a (limit_address z s a h),
-        slot_in_law s (address_page a) (page_in_law z a (limit_address z s a h)),
+        slot_in_law s (address_page a) (page_in z a (limit_address z s a h)),
       )
   same_cases (Load s a) h m = memory_same s a read_right h (m tt)
   same_cases (Store s a byte) h m = memory_same s a write_right h (m tt)

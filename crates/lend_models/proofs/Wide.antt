@@ -25,7 +25,7 @@ use Rattle.lend_models.specs.Embedding.{Fits, page_of, shared, narrow, wide_slot
 
 -- Entry's sizes fit into Premium's
 pub entry_fits : Fits entry premium
-entry_fits = record { spaces_fit = omega arith; pages_fit = omega arith; places_fit_law = omega arith }
+entry_fits = record { spaces_fit = omega arith; pages_fit = omega arith; places_fit = omega arith }
 
 -- the number at the sizes w of the page that has number k at the sizes z
 abbrev pub widen : Sizes → Sizes → ℕ → ℕ

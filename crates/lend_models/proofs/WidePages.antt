@@ -88,7 +88,7 @@ module _ (z w : Sizes) (fits : Fits z w) (some_page : 1 ≤ z.pages) (live : Lis
   -- ── parents and lines ──────────────────────────────────────────────────
   -- the page that lent a page is the same at both sizes
   pub lender_widened : (k s p : ℕ) → (slot_at b k).link ≡ Page s p → widen z w (key z s p) ≡ key w s p
-  lender_widened k s p e = key_widened z w fits some_page s p (sound.lent k s p e).page_in_law
+  lender_widened k s p e = key_widened z w fits some_page s p (sound.lent k s p e).page_in
 
   -- a page with no parent has none
   top_widened : (k : ℕ) → parent z (slot_at b) k ≡ none → parent w (wide_table z w b) (widen z w k) ≡ none
@@ -176,7 +176,7 @@ module _ (z w : Sizes) (fits : Fits z w) (some_page : 1 ≤ z.pages) (live : Lis
           let parent-same : wide_table z w b (key w s p) ≡ slot_at b (key z s p) = ap (wide_table z w b) (sym (lender_widened j s p d)) ∙ slot_widened (key z s p) in
           record {
             space_in = omega (arith, c.space_in, fits.spaces_fit);
-            page_in_law = omega (arith, c.page_in_law, fits.pages_fit);
+            page_in = omega (arith, c.page_in, fits.pages_fit);
             space_live = rw (live_widened s) c.space_live;
             parent_held = subst (λ (x : Slot). T (held x)) (sym parent-same) c.parent_held;
             some_right = subst (λ (x : Slot). 1 ≤ x.rights) (sym (slot_widened j)) c.some_right;

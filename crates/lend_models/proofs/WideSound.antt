@@ -21,13 +21,13 @@ use Rattle.lend_models.proofs.WideSummary.{length_wide_summary, summary_widened}
 module _ (z w : Sizes) (fits : Fits z w) (some_page : 1 ≤ z.pages) (b : Tables) (sound : Sound z b) where
   -- a place of the smaller cache names the same page at both sizes
   named_widened : (q : Place) → Names z (table_of b) q → page_named w q ≡ widen z w (page_named z q)
-  named_widened q n = sym (key_widened z w fits some_page q.space q.page n.page_in_law)
+  named_widened q n = sym (key_widened z w fits some_page q.space q.page n.page_in)
 
   -- and names it well
   names_wide : (q : Place) → Names z (table_of b) q → Names w (table_of (wide z w b)) q
   names_wide q n = record {
     space_in = omega (arith, n.space_in, fits.spaces_fit);
-    page_in_law = omega (arith, n.page_in_law, fits.pages_fit);
+    page_in = omega (arith, n.page_in, fits.pages_fit);
     is_held = subst (λ (x : Slot). T (held x)) (sym same) n.is_held;
     its_frame = n.its_frame
         ∙ (sym (frame_widened z w fits some_page b.live b.slots sound.shape.live_long sound.shape.slots_long sound.pages (page_named z q))
@@ -42,7 +42,7 @@ module _ (z w : Sizes) (fits : Fits z w) (some_page : 1 ≤ z.pages) (b : Tables
 
   -- each place of the cache is the same
   place_same : (i : ℕ) → place_at (wide_places w b.places) i ≡ place_at b.places i
-  place_same i = wide_place w b.places (omega (arith, sound.shape.places_long, fits.places_fit_law)) i
+  place_same i = wide_place w b.places (omega (arith, sound.shape.places_long, fits.places_fit)) i
 
   -- the cache is sound at the larger sizes
   cache_wide : SoundCache w (table_of (wide z w b)) (wide_places w b.places) b.next
@@ -50,7 +50,7 @@ module _ (z w : Sizes) (fits : Fits z w) (some_page : 1 ≤ z.pages) (b : Tables
     filled_names = λ i h. rw (place_same i) (names_wide (place_at b.places i) (sound.cache.filled_names i (rw (place_same i) at h)));
     one_each = λ i j hi hj e. one_each i j (rw (place_same i) at hi) (rw (place_same j) at hj) (rw (place_same i, place_same j) at e);
     empty_form = λ i h. place_same i ∙ sound.cache.empty_form i (rw (place_same i) at h);
-    next_in = omega (arith, sound.cache.next_in, fits.places_fit_law);
+    next_in = omega (arith, sound.cache.next_in, fits.places_fit);
   }
     where
       one_each : (i j : ℕ) → T (filled (place_at b.places i)) → T (filled (place_at b.places j))

@@ -95,7 +95,7 @@ module _ (z w : Sizes) (fits : Fits z w) (two : 2 ≤ z.spaces) where
   -- no place of the cache is filled
   start_places : (start_board w).places ≡ wide_places w (start_board z).places
   start_places =
-      is_wide w (start_board z).places (start_board w).places (omega (arith, fits.places_fit_law, start_places_long z)) (start_places_long w)
+      is_wide w (start_board z).places (start_board w).places (omega (arith, fits.places_fit, start_places_long z)) (start_places_long w)
       (λ i. start_place w i ∙ sym (start_place z i))
 
   -- and no frame has a count

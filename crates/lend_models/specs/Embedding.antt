@@ -15,7 +15,7 @@ use Rattle.lend.specs.Start.{start_board}
 pub record Fits (z w : Sizes) : Type 0 where
   pub spaces_fit : z.spaces ≤ w.spaces
   pub pages_fit : z.pages ≤ w.pages
-  pub places_fit_law : z.places ≤ w.places
+  pub places_fit : z.places ≤ w.places
 
 -- the number that page k has in its space
 abbrev pub page_of : Sizes → ℕ → ℕ

@@ -43,7 +43,7 @@ module _ (z : Sizes) (live : List Bool) (f : Table) (ok : (k : ℕ) → k < slot
       let o : T (link_test z live f k (f k).rights (Page s p)) = of_held k (Page s p) e (rw e tt) in
       record {
         space_in = ltb→lt s z.spaces (search (and_l, and_r) depth 12);
-        page_in_law = ltb→lt p z.pages (search (and_l, and_r) depth 12);
+        page_in = ltb→lt p z.pages (search (and_l, and_r) depth 12);
         space_live = search (and_l, and_r) depth 12;
         parent_held = search (and_l, and_r) depth 12;
         some_right = leb→le 1 (f k).rights (search (and_l, and_r) depth 12);

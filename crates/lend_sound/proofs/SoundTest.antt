@@ -100,7 +100,7 @@ module _ (z : Sizes) (f : Table) (c : List Place) (next : ℕ) where
       well : (i : ℕ) → T (named_first z f c i) → Names z f (place_at c i)
       well i o = record {
         space_in = ltb→lt (place_at c i).space z.spaces (search (and_l, and_r) depth 12);
-        page_in_law = ltb→lt (place_at c i).page z.pages (search (and_l, and_r) depth 12);
+        page_in = ltb→lt (place_at c i).page z.pages (search (and_l, and_r) depth 12);
         is_held = search (and_l, and_r) depth 12;
         its_frame = eqb→eq (place_at c i).frame (frame_of z f (page_named z (place_at c i))) (search (and_l, and_r) depth 12);
         its_rights = eqb→eq (place_at c i).rights (f (page_named z (place_at c i))).rights (search (and_l, and_r) depth 12);
@@ -111,8 +111,8 @@ module _ (z : Sizes) (f : Table) (c : List Place) (next : ℕ) where
 
       one_each : (i j : ℕ) → T (filled (place_at c i)) → T (filled (place_at c j)) → page_named z (place_at c i) ≡ page_named z (place_at c j) → i ≡ j
       one_each i j t u e =
-          let a = (well i (named i t)).page_in_law in
-          let b = (well j (named j u)).page_in_law in
+          let a = (well i (named i t)).page_in in
+          let b = (well j (named j u)).page_in in
           let s = key_space z (place_at c i).space (place_at c i).page (place_at c j).space (place_at c j).page a b e in
           let p = key_page z (place_at c i).space (place_at c i).page (place_at c j).space (place_at c j).page a b e in
           let x = first i t in
@@ -186,7 +186,7 @@ module _ (z : Sizes) (live : List Bool) (f : Table) (len : length live ≡ z.spa
           let h0 = out_pool k (λ d. let n : Frame k ≡ Page s p = sym d ∙ e in let x : ◌≡◌ {A = ℕ} 0 1 = cc in omega arith) in
           let h1 = held_live z live f len sound k t in
           let h2 = lt→ltb s z.spaces c.space_in in
-          let h3 = lt→ltb p z.pages c.page_in_law in
+          let h3 = lt→ltb p z.pages c.page_in in
           let h4 = c.space_live in
           let h5 = c.parent_held in
           let h6 = le→leb 1 (f k).rights c.some_right in
@@ -241,7 +241,7 @@ module _ (z : Sizes) (f : Table) (c : List Place) (next : ℕ) (sound : SoundCac
           let t : T (filled (place_at c i)) = rw e tt in
           let n = sound.filled_names i t in
           let h0 = lt→ltb (place_at c i).space z.spaces n.space_in in
-          let h1 = lt→ltb (place_at c i).page z.pages n.page_in_law in
+          let h1 = lt→ltb (place_at c i).page z.pages n.page_in in
           let h2 = n.is_held in
           let h3 : T (eqb (place_at c i).frame (frame_of z f (page_named z (place_at c i)))) = rw (eq-eqb (place_at c i).frame (frame_of z f (page_named z (place_at c i))) n.its_frame) tt in
           let h4 : T (eqb (place_at c i).rights (f (page_named z (place_at c i))).rights) = rw (eq-eqb (place_at c i).rights (f (page_named z (place_at c i))).rights n.its_rights) tt in

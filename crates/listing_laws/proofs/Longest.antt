@@ -72,7 +72,7 @@ module _ (z : Sizes) (small : Readable z) (b : Tables) (w : Sound z b) where
       go (Frame i) e = absurd (w.pages.no_frame k i h e)
       go (Page s p) e =
           let g : Lent z b.live (table_of b) k s p = w.pages.lent k s p e in
-          one_line (space_of z k) (page_in z k) s (z.spaces - 1) p (z.pages - 1) (table_of b k).rights all_rights (omega (arith, g.space_in)) (omega (arith, g.page_in_law)) g.known_rights
+          one_line (space_of z k) (page_in z k) s (z.spaces - 1) p (z.pages - 1) (table_of b k).rights all_rights (omega (arith, g.space_in)) (omega (arith, g.page_in)) g.known_rights
 
   pub page_lines : (n k : ℕ) → z.pages ≤ k → length (pages_from z (table_of b) k n) ≤ longest_lines z k n
   unfolding pages_from longest_lines

@@ -126,7 +126,7 @@ module _ (z : Sizes) (small : Readable z) (b : Tables) (w : Sound z b) where
         space_to = (div-lt_iff_lt-mul small.some_page).1 l;
         page_to = mod-lt k small.some_page;
         parent_to = rw es g.space_in;
-        at_to = rw ep g.page_in_law;
+        at_to = rw ep g.page_in;
         rights_from = g.some_right;
         rights_to = g.known_rights;
       }

@@ -84,7 +84,7 @@ module _ (z : Sizes) (small : Readable z) (low : ℕ) (some-low : 1 ≤ low) (lo
       record {
         outside = not_pool k h;
         inside = l;
-        shorter = rw e (one_shorter (space_of z k) (page_in z k) s (z.spaces - 1) p (z.pages - 1) (table_of b k).rights all_rights (fewer s m) (omega (arith, g.page_in_law)) g.known_rights);
+        shorter = rw e (one_shorter (space_of z k) (page_in z k) s (z.spaces - 1) p (z.pages - 1) (table_of b k).rights all_rights (fewer s m) (omega (arith, g.page_in)) g.known_rights);
       }
 
   held_inside : (k : ℕ) → T (held (table_of b k)) → k < slot_count z
@@ -122,7 +122,7 @@ module _ (z : Sizes) (small : Readable z) (low : ℕ) (some-low : 1 ≤ low) (lo
           go (yes m) = record { page = k; on = or_l (eqb k k) (member k l) (true_is _ (eq-eqb k k refl)); high = up; short = low_short k s p up (held_inside k h) d m }
           go (no m) =
               let g : Lent z b.live (table_of b) k s p = w.pages.lent k s p d in
-              let j : space_of z q ≡ s = ap (space_of z) (sym i) ∙ space_of_key z s p g.page_in_law in
+              let j : space_of z q ≡ s = ap (space_of z) (sym i) ∙ space_of_key z s p g.page_in in
               let x = next (omega arith) in
               record { page = x.page; on = or_r (eqb k x.page) (member x.page l) x.on; high = x.high; short = x.short }
 

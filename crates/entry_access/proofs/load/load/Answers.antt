@@ -20,7 +20,7 @@ overflow_cast-space c =
 pub overflow_cast-page-2 : goal.overflow_cast-page-2
 overflow_cast-page-2 c =
     let shown : Accessible sizes (tables c.args.b) c.args.space c.args.address = load_shows sizes (beside c.args.b c.args.memory.now) _ _ _ c.access_number-number.ensures c.if-number-ne0.false in
-    omega (arith, shown.page_in_law)
+    omega (arith, shown.page_in)
 
 pub bounds-memory-at : goal.bounds-memory-at
 bounds-memory-at c =

@@ -21,7 +21,7 @@ overflow_cast-space c =
 pub overflow_cast-page-2 : goal.overflow_cast-page-2
 overflow_cast-page-2 c =
     let shown : Accessible sizes (tables c.args.b) c.args.space c.args.address = translate_shows sizes _ _ _ _ _ c.access_number-number.ensures c.if-number-ne0.false in
-    omega (arith, shown.page_in_law)
+    omega (arith, shown.page_in)
 
 pub overflow_cast-space-2 : goal.overflow_cast-space-2
 overflow_cast-space-2 c =
@@ -31,7 +31,7 @@ overflow_cast-space-2 c =
 pub overflow_cast-page-3 : goal.overflow_cast-page-3
 overflow_cast-page-3 c =
     let shown : Accessible sizes (tables c.args.b) c.args.space c.args.address = translate_shows sizes _ _ _ _ _ c.access_number-number.ensures c.if-number-ne0.false in
-    omega (arith, shown.page_in_law)
+    omega (arith, shown.page_in)
 
 pub returns : goal.returns
 returns c =
