@@ -14,7 +14,7 @@ use own.sound.places_fit.Goals as goal
 pub loop-i-init : goal.loop-i-init
 loop-i-init c = tested_none _
 
--- what the turn tests is the test of place i
+-- `tested`: what the turn tests is the test of place i
 pub returns-then-not-is_empty_place-fits : goal.returns-then-not-is_empty_place-fits
 returns-then-not-is_empty_place-fits c =
     let tested : (c.is_empty_place.result || (c.place_fits-fits.result && eqb c.place_for-first.result c.loop-i.i)) ≡ place_ok sizes c.args.rights c.args.frames c.args.places c.loop-i.i (place_at c.args.places c.loop-i.i) = place_tested sizes _ _ _ _ _ _ _ c.key.result c.inside-at.result _ c.is_empty_place.ensures c.key.ensures c.inside-at.ensures

@@ -20,5 +20,4 @@ pub returns : goal.returns
 unfolding place_for
 returns c =
     let long : length c.args.places ≡ sizes.places = search rules in
-    let e = long in
-    sym e ∙ lowest_none _ _ _ c.loop-k.invariant (omega arith)
+    sym long ∙ lowest_none _ _ _ c.loop-k.invariant (omega arith)

@@ -1,28 +1,25 @@
 -- `flush_range` meets its contract: the goals that are left, from the invariant.
 use Rattle.entry_calls.proofs as own
 use Prim.Native.Nat.{◌-◌}
-use mathlib.Core.Path.{◌≡◌, ◌∙◌}
+use mathlib.Core.Path.{◌∙◌}
 use native.Mathlib.Nat.{sub_self}
 use native.Mathlib.Omega.{arith}
 use borrow.Author.Rules.{rules}
 use lib.Dec.{lit<}
-use Rattle.lend.specs.Tables.{alone}
-use Rattle.lend.specs.Ranges.{FlushRange, range_number, range_pages}
 use Rattle.lend_code.proofs.RangeLoop.{going_none, going_more, range_refused_law, range_shows, range_done_law, first_in_law, count_in_law, flush_range_number, flush_range_pages, flush_range_call}
 use Rattle.entry.specs.Sizes.{sizes}
 use Rattle.entry.specs.Board.{tables}
 use own.flush_range.flush_range.Goals as goal
 
--- the number of the first checks is the one of the rules
--- and so is the number of pages
+-- `numbered`: the number of the first checks is the one of the rules; `counted`: so is the number of pages
 pub returns-then-number-ne0 : goal.returns-then-number-ne0
 returns-then-number-ne0 c =
-    let numbered : c.one_number-number.result ≡ range_number sizes (alone (tables c.args.b)) (FlushRange c.args.space c.args.base c.args.size c.args.rights) = flush_range_number sizes (tables c.args.b) c.args.space c.args.base c.args.size c.args.rights _ c.range_of-range.ensures _ c.one_number-number.ensures in
+    let numbered = flush_range_number sizes (tables c.args.b) c.args.space c.args.base c.args.size c.args.rights _ c.range_of-range.ensures _ c.one_number-number.ensures in
     c.range_refused.ensures ∙ range_refused_law sizes _ _ _ numbered c.if-number-ne0.true
 
 pub loop-left-init : goal.loop-left-init
 loop-left-init c =
-    let numbered : c.one_number-number.result ≡ range_number sizes (alone (tables c.args.b)) (FlushRange c.args.space c.args.base c.args.size c.args.rights) = flush_range_number sizes (tables c.args.b) c.args.space c.args.base c.args.size c.args.rights _ c.range_of-range.ensures _ c.one_number-number.ensures in
+    let numbered = flush_range_number sizes (tables c.args.b) c.args.space c.args.base c.args.size c.args.rights _ c.range_of-range.ensures _ c.one_number-number.ensures in
     (rw (sub_self c.page_count-count.result) (going_none sizes _ _ _ c.none_made-run.ensures (range_shows sizes _ _ _ numbered c.if-number-ne0.false)), search rules)
 
 pub overflow_add-first : goal.overflow_add-first
@@ -32,7 +29,7 @@ overflow_add-first c =
 
 pub loop-left-preserved : goal.loop-left-preserved
 loop-left-preserved c =
-    let counted : c.page_count-count.result ≡ range_pages sizes (FlushRange c.args.space c.args.base c.args.size c.args.rights) = flush_range_pages sizes (tables c.args.b) c.args.space c.args.base c.args.size c.args.rights _ c.range_of-range.ensures _ c.page_count-count.ensures in (
+    let counted = flush_range_pages sizes (tables c.args.b) c.args.space c.args.base c.args.size c.args.rights _ c.range_of-range.ensures _ c.page_count-count.ensures in (
       going_more sizes (lit< tt) _ _ _ _ c.loop-left.invariant.0 _ counted (omega (arith, c.loop-left.invariant.1, c.loop-left-test.true))
           _ (flush_range_call sizes (tables c.args.b) c.args.space c.args.base c.args.size c.args.rights _ c.range_of-range.ensures _ c.first_page-first.ensures (c.page_count-count.result - c.loop-left.left))
           _ c.flush_page-page.ensures _ c.page_made-run.ensures _ (omega (arith, c.loop-left.invariant.1, c.loop-left-test.true)),
@@ -41,7 +38,7 @@ loop-left-preserved c =
 
 pub returns : goal.returns
 returns c =
-    let counted : c.page_count-count.result ≡ range_pages sizes (FlushRange c.args.space c.args.base c.args.size c.args.rights) = flush_range_pages sizes (tables c.args.b) c.args.space c.args.base c.args.size c.args.rights _ c.range_of-range.ensures _ c.page_count-count.ensures in
-    let numbered : c.one_number-number.result ≡ range_number sizes (alone (tables c.args.b)) (FlushRange c.args.space c.args.base c.args.size c.args.rights) = flush_range_number sizes (tables c.args.b) c.args.space c.args.base c.args.size c.args.rights _ c.range_of-range.ensures _ c.one_number-number.ensures in
+    let counted = flush_range_pages sizes (tables c.args.b) c.args.space c.args.base c.args.size c.args.rights _ c.range_of-range.ensures _ c.page_count-count.ensures in
+    let numbered = flush_range_number sizes (tables c.args.b) c.args.space c.args.base c.args.size c.args.rights _ c.range_of-range.ensures _ c.one_number-number.ensures in
     range_done_law sizes _ _ _ numbered c.if-number-ne0.false _ c.rights_of-before.ensures _ counted
     _ c.none_made-run.ensures _ _ c.loop-left.invariant.0 (omega (arith, c.loop-left-test.false)) _ c.all_made.ensures

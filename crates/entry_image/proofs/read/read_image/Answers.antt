@@ -9,10 +9,10 @@ returns-then-image-ne-IMAGE c = board_short sizes _ _ c.if-image-ne-IMAGE.true c
 
 pub returns-then-not-held-spaces : goal.returns-then-not-held-spaces
 returns-then-not-held-spaces c =
-    board_bad sizes _ _ _ c.read_slots-held.ensures.0 c.read_live-spaces.ensures.0 _ (c.if-not-held-spaces.true) c.no_board-then-not-held-spaces.ensures
+    board_bad sizes _ _ _ c.read_slots-held.ensures.0 c.read_live-spaces.ensures.0 _ c.if-not-held-spaces.true c.no_board-then-not-held-spaces.ensures
 
 pub returns : goal.returns
 returns c =
     let slots = c.read_slots-held.ensures in
     let live = c.read_live-spaces.ensures in
-    board_good sizes _ _ _ slots.0 live.0 _ _ _ _ c.if-image-ne-IMAGE.false (c.if-not-held-spaces.false) slots.1 live.1 c.read_places.ensures c.read_summary.ensures
+    board_good sizes _ _ _ slots.0 live.0 _ _ _ _ c.if-image-ne-IMAGE.false c.if-not-held-spaces.false slots.1 live.1 c.read_places.ensures c.read_summary.ensures

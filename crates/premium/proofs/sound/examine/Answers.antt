@@ -15,7 +15,7 @@ use Rattle.lend_code.proofs.SoundCode.{all_fit, pages_dead, pages_unfit, pages_u
 use spec.Sizes.{sizes}
 use own.sound.examine.Goals as goal
 
--- the first two spaces, as they were asked
+-- `asked`: the first two spaces, as they were asked
 pub returns-then-not-live_at : goal.returns-then-not-live_at
 returns-then-not-live_at c =
     let asked : let live = c.args.live in (c.live_at.result && c.live_at-2.result) ≡ (alive live 0 && alive live 1) = rw (c.live_at.ensures, c.live_at-2.ensures) in

@@ -14,7 +14,7 @@ use own.sound.slots_fit.Goals as goal
 pub loop-k-init : goal.loop-k-init
 loop-k-init c = tested_none _
 
--- what the turn tests is the test of page k
+-- `tested`: what the turn tests is the test of page k
 pub returns-then-not-slot_fits : goal.returns-then-not-slot_fits
 unfolding slot_test
 returns-then-not-slot_fits c =

@@ -22,5 +22,4 @@ pub returns : goal.returns
 unfolding empty_in
 returns c =
     let long : length c.args.places ≡ sizes.places = search rules in
-    let e = long in
-    sym e ∙ lowest_none _ _ _ c.loop-k.invariant (omega arith)
+    sym long ∙ lowest_none _ _ _ c.loop-k.invariant (omega arith)

@@ -3,29 +3,28 @@
 use Rattle.premium_access.proofs as own
 use Rattle.premium_access.specs as spec
 use native.Mathlib.Omega.{arith}
-use Rattle.lend_code.proofs.Access.{Accessible, store_refused, store_shows, store_long, store_done}
+use Rattle.lend_code.proofs.Access.{store_refused, store_shows, store_long, store_done}
 use Rattle.premium.specs.Sizes.{sizes}
-use Rattle.premium.specs.Board.{tables}
 use spec.Answers.{beside, seen}
 use own.store.store.Goals as goal
 
 pub returns-then-number-ne0 : goal.returns-then-number-ne0
 returns-then-number-ne0 c = store_refused sizes (beside c.args.b c.args.memory.now) _ _ _ _ c.access_number-number.ensures c.if-number-ne0.true
 
--- what the number 0 has shown
+-- `shown`: what the number 0 has shown
 pub overflow_cast-space : goal.overflow_cast-space
 overflow_cast-space c =
-    let shown : Accessible sizes (tables c.args.b) c.args.space c.args.address = store_shows sizes (beside c.args.b c.args.memory.now) _ _ c.args.byte _ c.access_number-number.ensures c.if-number-ne0.false in
+    let shown = store_shows sizes (beside c.args.b c.args.memory.now) _ _ c.args.byte _ c.access_number-number.ensures c.if-number-ne0.false in
     omega (arith, shown.space_in)
 
 pub overflow_cast-page-2 : goal.overflow_cast-page-2
 overflow_cast-page-2 c =
-    let shown : Accessible sizes (tables c.args.b) c.args.space c.args.address = store_shows sizes (beside c.args.b c.args.memory.now) _ _ c.args.byte _ c.access_number-number.ensures c.if-number-ne0.false in
+    let shown = store_shows sizes (beside c.args.b c.args.memory.now) _ _ c.args.byte _ c.access_number-number.ensures c.if-number-ne0.false in
     omega (arith, shown.page_in)
 
 pub bounds-memory-at : goal.bounds-memory-at
 bounds-memory-at c =
-    let shown : Accessible sizes (tables c.args.b) c.args.space c.args.address = store_shows sizes (beside c.args.b c.args.memory.now) _ _ c.args.byte _ c.access_number-number.ensures c.if-number-ne0.false in
+    let shown = store_shows sizes (beside c.args.b c.args.memory.now) _ _ c.args.byte _ c.access_number-number.ensures c.if-number-ne0.false in
     omega (
       arith,
       c.byte_at-at.ensures,

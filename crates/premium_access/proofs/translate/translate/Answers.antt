@@ -2,9 +2,8 @@
 -- `translate` meets its contract: what the number 0 has shown makes the look at the page that of the rules.
 use Rattle.premium_access.proofs as own
 use native.Mathlib.Omega.{arith}
-use Rattle.lend_code.proofs.Access.{Accessible, translate_refused, translate_shows, translate_done}
+use Rattle.lend_code.proofs.Access.{translate_refused, translate_shows, translate_done}
 use Rattle.premium.specs.Sizes.{sizes}
-use Rattle.premium.specs.Board.{tables}
 use Rattle.premium_access.specs as spec
 use spec.Answers.{seen}
 use own.translate.translate.Goals as goal
@@ -12,25 +11,25 @@ use own.translate.translate.Goals as goal
 pub returns-then-number-ne0 : goal.returns-then-number-ne0
 returns-then-number-ne0 c = translate_refused sizes _ _ _ _ _ c.access_number-number.ensures c.if-number-ne0.true
 
--- what the number 0 has shown
+-- `shown`: what the number 0 has shown
 pub overflow_cast-space : goal.overflow_cast-space
 overflow_cast-space c =
-    let shown : Accessible sizes (tables c.args.b) c.args.space c.args.address = translate_shows sizes _ _ _ _ _ c.access_number-number.ensures c.if-number-ne0.false in
+    let shown = translate_shows sizes _ _ _ _ _ c.access_number-number.ensures c.if-number-ne0.false in
     omega (arith, shown.space_in)
 
 pub overflow_cast-page-2 : goal.overflow_cast-page-2
 overflow_cast-page-2 c =
-    let shown : Accessible sizes (tables c.args.b) c.args.space c.args.address = translate_shows sizes _ _ _ _ _ c.access_number-number.ensures c.if-number-ne0.false in
+    let shown = translate_shows sizes _ _ _ _ _ c.access_number-number.ensures c.if-number-ne0.false in
     omega (arith, shown.page_in)
 
 pub overflow_cast-space-2 : goal.overflow_cast-space-2
 overflow_cast-space-2 c =
-    let shown : Accessible sizes (tables c.args.b) c.args.space c.args.address = translate_shows sizes _ _ _ _ _ c.access_number-number.ensures c.if-number-ne0.false in
+    let shown = translate_shows sizes _ _ _ _ _ c.access_number-number.ensures c.if-number-ne0.false in
     omega (arith, shown.space_in)
 
 pub overflow_cast-page-3 : goal.overflow_cast-page-3
 overflow_cast-page-3 c =
-    let shown : Accessible sizes (tables c.args.b) c.args.space c.args.address = translate_shows sizes _ _ _ _ _ c.access_number-number.ensures c.if-number-ne0.false in
+    let shown = translate_shows sizes _ _ _ _ _ c.access_number-number.ensures c.if-number-ne0.false in
     omega (arith, shown.page_in)
 
 pub returns : goal.returns

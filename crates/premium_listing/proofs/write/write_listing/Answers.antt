@@ -1,12 +1,9 @@
 -- Made by tools/models.py from crates/entry_listing/proofs/write/write_listing/Answers.antt: change that file.
 -- `write_listing` meets its contract: an unsound board, a short buffer, and one that is long enough.
 use Rattle.premium_listing.proofs as own
-use Prim.Native.Nat.{ℕ, ◌≤◌}
-use mathlib.Core.Path.{◌≡◌}
-use mathlib.Core.List.{List}
+use Prim.Native.Nat.{◌≤◌}
 use native.Mathlib.Omega.{arith}
-use lib.ListN.{length, take}
-use lib.Seq.{length-take-le}
+use lib.ListN.{length}
 use Rattle.lend.specs.Tables.{Tables}
 use Rattle.text.specs.Write.{last_position}
 use Rattle.listing.specs.Listing.{listing_of}
@@ -19,20 +16,16 @@ use own.write.write_listing.Goals as goal
 far : (b : Tables) → length (listing_of sizes b) ≤ last_position
 far b = omega (arith, listing_length sizes b)
 
--- the length of a part: asked of the wrong program that measures in the whole buffer, and not of an empty part
-take_long : (n : ℕ) (l : List ℕ) → n ≤ length l → length (take n l) ≡ n
-take_long n l h = length-take-le n l h
-
 pub returns-then-not-sound : goal.returns-then-not-sound
-returns-then-not-sound c = unsound_written sizes _ c.sound.ensures (c.if-not-sound.true)
+returns-then-not-sound c = unsound_written sizes _ c.sound.ensures c.if-not-sound.true
 
 pub returns-then-out-length : goal.returns-then-out-length
 returns-then-out-length c =
-    short_written sizes _ c.sound.ensures (c.if-not-sound.false) c.put_listing-length.ensures (far _) _
+    short_written sizes _ c.sound.ensures c.if-not-sound.false c.put_listing-length.ensures (far _) _
     (search rules)
 
 pub returns : goal.returns
 returns c =
-    whole_written sizes _ c.sound.ensures (c.if-not-sound.false) c.put_listing-length.ensures (far _) _
+    whole_written sizes _ c.sound.ensures c.if-not-sound.false c.put_listing-length.ensures (far _) _
     (search rules)
     c.put_listing-length-2.ensures
