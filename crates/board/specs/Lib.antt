@@ -1,0 +1,4 @@
+pub mod Model
+pub mod Board
+pub mod Range
+pub mod Found

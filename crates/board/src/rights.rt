@@ -1,0 +1,62 @@
+// The rights of all pages: as one array of numbers, by which before and after are compared, and what a withdrawal takes of them.
+ghost use Rattle.std.specs.Prelude.{◌≡◌};
+ghost use Rattle.lend_code.specs.Inner.{rights_of, left_of, cut_slots, lost_all};
+ghost use Rattle.board.specs.Model.{sizes};
+ghost use Rattle.board.specs.Board.{tables, with_slots};
+
+use crate::{Board, Shape};
+
+// What is left of a page's rights when it loses d, if it does.
+fn left(rights: u8, loses: bool, d: u8) -> u8
+    ensures { result ≡ left_of rights loses d }
+{
+    if loses { lend::less(rights, d) } else { rights }
+}
+
+impl<const SPACES: usize, const PAGES: usize, const SLOTS: usize, const PLACES: usize> Board<
+    SPACES,
+    PAGES,
+    SLOTS,
+    PLACES,
+> {
+    // The rights of each page.
+    pub fn rights(&self) -> [u8; SLOTS]
+        ensures { result ≡ rights_of (sizes SPACES PAGES PLACES) self.now.slots }
+    {
+        let mut rights = [0u8; SLOTS];
+        for k in 0..SLOTS {
+            rights[k] = self.slots[k].rights;
+        }
+        rights
+    }
+
+    // The pages of the set lose d; a page whose last right went is empty.
+    pub fn cut(&mut self, set: &[bool; SLOTS], d: u8)
+        ensures { tables self.new ≡ with_slots (tables self.old) (cut_slots (sizes SPACES PAGES PLACES) self.old.slots set.now d) }
+    {
+        for k in 0..SLOTS {
+            let slot = self.slots[k];
+            self.slots[k] = slot.with_rights(left(slot.rights, set[k], d));
+        }
+    }
+}
+
+impl<const SPACES: usize, const PAGES: usize, const SLOTS: usize, const PLACES: usize> Shape<
+    SPACES,
+    PAGES,
+    SLOTS,
+    PLACES,
+> {
+    // How many pages had a right before and have none after.
+    pub fn lost_all(self, before: &[u8; SLOTS], after: &[u8; SLOTS]) -> u32
+        ensures { result ≡ lost_all (sizes SPACES PAGES PLACES) before.now after.now }
+    {
+        let mut n = 0;
+        for k in 0..SLOTS {
+            if before[k] != 0 && after[k] == 0 {
+                n += 1;
+            }
+        }
+        n
+    }
+}

@@ -1,0 +1,109 @@
+// The cache of translations: which place names a page, where an entry goes, and which entries are dropped.
+ghost use Rattle.std.specs.Prelude.{◌≡◌, length};
+ghost use Rattle.lend.specs.Cache.{names as names_of, place_for, empty_in, dropped, dropped_where};
+ghost use Rattle.lend.specs.Translate.{with_entry};
+ghost use Rattle.lend_code.specs.Access.{place_after};
+ghost use Rattle.lend_code.specs.Inner.{lost_in};
+ghost use Rattle.board.specs.Model.{sizes};
+ghost use Rattle.board.specs.Board.{tables, with_places};
+ghost use Rattle.board.specs.Found.{found_or, place_found};
+
+use crate::{Board, Cache, Shape};
+use lend::Place;
+
+// Whether the place is filled for the page.
+fn names(place: Place, space: u8, page: u8) -> bool
+    ensures { result ≡ names_of space page place }
+{
+    place.space == space && place.page == page && place.is_filled()
+}
+
+impl<const PLACES: usize> Cache<PLACES> {
+    // The lowest place that is filled for the page, where one is.
+    pub fn place_for(&self, space: u8, page: u8) -> Option<usize>
+        ensures { found_or (length self.now.places) result ≡ place_for space page self.now.places }
+    {
+        self.places
+            .iter()
+            .position(|&place| names(place, space, page))
+    }
+
+    // The lowest empty place, where one is.
+    fn empty_place(&self) -> Option<usize>
+        ensures { found_or (length self.now.places) result ≡ empty_in self.now.places }
+    {
+        self.places.iter().position(|place| !place.is_filled())
+    }
+
+    // The place that names the page, where one does.
+    pub fn find(&self, space: u8, page: u8) -> Option<Place>
+        ensures { result ≡ place_found self.now.places space page }
+    {
+        self.places
+            .iter()
+            .copied()
+            .find(|&place| names(place, space, page))
+    }
+}
+
+impl<const SPACES: usize, const PAGES: usize, const SLOTS: usize, const PLACES: usize> Shape<
+    SPACES,
+    PAGES,
+    SLOTS,
+    PLACES,
+> {
+    // The place after this one, and the first after the last.
+    fn place_after(self, place: u8) -> u8
+        ensures { result ≡ place_after (sizes SPACES PAGES PLACES) place }
+    {
+        if usize::from(place) + 1 < PLACES {
+            return place + 1;
+        }
+        0
+    }
+}
+
+impl<const SPACES: usize, const PAGES: usize, const SLOTS: usize, const PLACES: usize> Board<
+    SPACES,
+    PAGES,
+    SLOTS,
+    PLACES,
+> {
+    // The entry goes to the lowest empty place; with none empty to the next place to replace, whose number then moves on.
+    pub fn insert(&mut self, place: Place)
+        ensures { tables self.new ≡ with_entry (tables self.old) place }
+    {
+        match self.cache.empty_place() {
+            Some(at) => self.cache.places[at] = place,
+            None => {
+                let at = usize::from(self.cache.next);
+                self.cache.next = self.shape.place_after(self.cache.next);
+                if at < PLACES {
+                    self.cache.places[at] = place;
+                }
+            }
+        }
+    }
+
+    // The entry of the page is dropped, where there is one.
+    pub fn drop_entry(&mut self, space: u8, page: u8)
+        ensures { tables self.new ≡ with_places (tables self.old) (dropped self.old.cache.places (place_for space page self.old.cache.places)) }
+    {
+        if let Some(at) = self.cache.place_for(space, page) {
+            self.cache.places[at] = Place::EMPTY;
+        }
+    }
+
+    // The entry of each page that lost a right is dropped.
+    pub fn drop_lost(&mut self, before: &[u8; SLOTS], after: &[u8; SLOTS])
+        ensures { tables self.new ≡ with_places (tables self.old) (dropped_where (sizes SPACES PAGES PLACES) (lost_in before.now after.now) self.old.cache.places) }
+    {
+        for i in 0..PLACES {
+            let place = self.cache.places[i];
+            let k = self.shape.key(place.space, place.page);
+            if k < SLOTS && !lend::within(before[k], after[k]) {
+                self.cache.places[i] = Place::EMPTY;
+            }
+        }
+    }
+}
