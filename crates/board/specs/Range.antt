@@ -1,5 +1,5 @@
 -- A range of the code as a range of the rules.
-use Rattle.std.specs.Prelude.{ℕ, cond, eqb}
+use Rattle.std.specs.Prelude.{ℕ, ◌≡◌, refl, cond, eqb}
 use Rattle.std.specs.declared.option.Option.{Option}
 use Rattle.std.specs.declared.option.Option.TheVariants.{Some, None}
 use Rattle.lend.specs.Ranges as rules
@@ -8,6 +8,15 @@ use Rattle.board.specs.declared.range.Range.{Range}
 abbrev pub range_meant : Option Range → rules.Range
 range_meant None = rules.Invalid
 range_meant (Some r) = rules.Pages r.first r.count
+
+-- and back: nothing is lost
+abbrev pub range_back : rules.Range → Option Range
+range_back rules.Invalid = None
+range_back (rules.Pages first count) = Some (record { first = first; count = count })
+
+pub range_back_meant : (r : Option Range) → range_back (range_meant r) ≡ r
+range_back_meant None = refl
+range_back_meant (Some r) = refl
 
 -- a number of pages, none where it is 0
 abbrev pub unless_zero : ℕ → Option ℕ

@@ -1,0 +1,5 @@
+pub mod Chain
+pub mod Unique
+pub mod RangeChain
+pub mod GivenAway
+pub mod Links
