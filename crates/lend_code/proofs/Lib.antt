@@ -17,3 +17,4 @@ pub mod LendingCalls
 pub mod Access
 pub mod Ranges
 pub mod RangeLoop
+pub mod LineWalks
