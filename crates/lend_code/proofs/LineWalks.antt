@@ -7,18 +7,19 @@ use Prim.Native.Nat.{ℕ, zero, suc, ◌+◌, ◌-◌, ◌≤◌, ◌<◌}
 use native.Mathlib.Nat.{add-zero}
 use native.Mathlib.Omega.{arith}
 use lib.Dec.{T, eqb}
-use lib.ListN.{length, get_or-eq_default}
+use lib.ListN.{length, set, get_or-eq_default}
 use borrow.Author.Tests.{eq-eqb, ne_eqb}
 use Rattle.lend.specs.declared.Link.{Link}
 use Rattle.lend.specs.declared.Link.TheVariants.{Nothing, Frame, Page}
 use Rattle.lend.specs.declared.Slot.{Slot}
 use Rattle.lend.specs.Sizes.{Sizes, slot_count, key, space_of, in_pool}
-use Rattle.lend.specs.Lists.{any}
+use Rattle.lend.specs.Lists.{any, every, tabulate}
 use Rattle.lend.specs.Slots.{Table, empty_slot, slot_at, held}
 use Rattle.std.specs.declared.option.Option.{Option}
 use Rattle.std.specs.declared.option.Option.TheVariants.{Some, None}
 use Rattle.lend.specs.Line.{line, line_of, parent_of, parent, onward, frame, frame_of, links, links_of}
 use Rattle.lend_basics.proofs.Bools.{is_true, not_is_false, and_false}
+use Rattle.lend_basics.proofs.Loops.{Built, built_none, built_more, built_all, Tested, tested_none, tested_more, tested_not, tested_all}
 use Rattle.lend_code.specs.Inner.{has, Fitting, rest_ok, quick_line}
 use Rattle.lend_code.proofs.Fits.{key_in}
 use Rattle.lend_code.proofs.Ends.{fit_page, fit_frame}
@@ -281,3 +282,53 @@ module _ (z : Sizes) (b : List Slot) (k : ℕ) where
           at_in = let l = fit_page z b w.fitting at x y (omega (arith, w.long, w.at_in)) e in let i = key_in z x y l.space_in l.page_in in omega (arith, w.long);
           same = rw u (rw (e, ne_eqb (space_of z (key z x y)) (space_of z k) (λ o. s (ap (space_of z) u ∙ o))) at next);
         }
+
+-- ── the frames of all lines ──────────────────────────────────────────────
+module _ (z : Sizes) (b : List Slot) where
+  -- the lines before k are good, and their frames are found
+  pub record Framing (n : ℕ) (frames : List ℕ) (k : ℕ) : Type 0 where
+    pub long : n ≡ slot_count z
+    pub tested : Tested (quick_line z (slot_at b)) k
+    pub built : Built 0 n (λ i. frame_of z (slot_at b) i) frames k
+
+  -- what the walks along all lines are to find
+  abbrev quick_frames : Option (List ℕ)
+  quick_frames = cond (every (slot_count z) (quick_line z (slot_at b))) (Some (tabulate (slot_count z) (λ i. frame_of z (slot_at b) i))) None
+
+  pub framing_none : {n : ℕ} (frames : List ℕ) → n ≡ slot_count z → length frames ≡ n → Framing n frames 0
+  framing_none {n} frames e long = record {
+    long = e;
+    tested = tested_none (quick_line z (slot_at b));
+    built = built_none 0 n (λ i. frame_of z (slot_at b) i) frames long;
+  }
+
+  module _ {n : ℕ} {frames : List ℕ} {k : ℕ} (w : Framing n frames k) where
+    -- what a walk found says of its line
+    quick_some : {i : ℕ} → Some i ≡ quick_frame z b k → (quick_line z (slot_at b) k ≡ true) × (i ≡ frame_of z (slot_at b) k)
+    quick_some {i} e = go (quick_line z (slot_at b) k) e
+      where
+        go : (t : Bool) → Some i ≡ cond t (Some (frame_of z (slot_at b) k)) None → (t ≡ true) × (i ≡ frame_of z (slot_at b) k)
+        go true e = (refl, cc)
+        go false e = cc
+
+    -- one line is not good
+    pub framing_lost : k < n → None ≡ quick_frame z b k → None ≡ quick_frames
+    framing_lost h e = rw (tested_not (quick_line z (slot_at b)) (slot_count z) k (omega (arith, w.long)) (go (quick_line z (slot_at b) k) e))
+      where
+        go : (t : Bool) → None ≡ cond t (Some (frame_of z (slot_at b) k)) None → t ≡ false
+        go true e = cc
+        go false e = refl
+
+    -- the next is
+    pub framing_more : {i : ℕ} → k < n → Some i ≡ quick_frame z b k → Framing n (set frames k i) (k + 1)
+    framing_more {i} h e =
+        let q = quick_some e in
+        record {
+          long = w.long;
+          tested = tested_more (quick_line z (slot_at b)) k w.tested q.0;
+          built = built_more 0 n (λ j. frame_of z (slot_at b) j) frames k i w.built h q.1;
+        }
+
+    -- all are
+    pub framing_all : n ≤ k → Some frames ≡ quick_frames
+    framing_all h = rw (tested_all (quick_line z (slot_at b)) (slot_count z) k w.tested (omega (arith, w.long)), ← w.long, built_all 0 n (λ i. frame_of z (slot_at b) i) frames k w.built h)
