@@ -18,3 +18,4 @@ pub mod Access
 pub mod Ranges
 pub mod RangeLoop
 pub mod LineWalks
+pub mod LineFrames

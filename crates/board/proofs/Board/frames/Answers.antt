@@ -1,7 +1,7 @@
 -- `frames` meets its contract: the goals that are left, from the invariant.
 use mathlib.Core.Path.{◌∙◌}
 use lib.ListN.{length-replicate}
-use Rattle.lend_code.proofs.LineWalks.{framing_none, framing_lost, framing_more, framing_all}
+use Rattle.lend_code.proofs.LineFrames.{framing_none, framing_lost, framing_more, framing_all}
 use Rattle.board.proofs.Board.frames.Goals as goal
 
 pub loop-k-init : goal.loop-k-init

@@ -1,5 +1,5 @@
 -- `frames` meets its contract. The invariant is `Framing`: the lines before k are good, and their frames are found.
-use Rattle.lend_code.proofs.LineWalks.{Framing}
+use Rattle.lend_code.proofs.LineFrames.{Framing}
 use Rattle.board.specs.Model.{sizes}
 use Rattle.board.proofs.Board.frames.Given as goal
 

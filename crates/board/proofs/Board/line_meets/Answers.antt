@@ -1,11 +1,6 @@
 -- `line_meets` meets its contract: the goals that are left, from the invariant.
-use Rattle.std.proofs.Common.{rules}
-use Rattle.lend_basics.proofs.Lists.{length_unmap}
-use Rattle.lend_code.proofs.LineWalks.{meeting_none, meeting_past, meeting_over, meeting_hit, meeting_end, meeting_up}
+use Rattle.lend_code.proofs.LineWalks.{meeting_past, meeting_over, meeting_hit, meeting_end, meeting_up}
 use Rattle.board.proofs.Board.line_meets.Goals as goal
-
-pub loop-init : goal.loop-init
-loop-init g c = meeting_none _ _ _ _ _ (search (rules, length_unmap)) c.told-set
 
 pub returns-then-at : goal.returns-then-at
 returns-then-at g c = meeting_past _ _ _ _ c.loop.invariant c.if-at.true

@@ -1,6 +1,6 @@
 -- `rooted_frame` meets its contract: the goals that are left, from the invariant.
 use native.Mathlib.Omega.{arith}
-use Rattle.lend_code.proofs.LineWalks.{rooting_none, rooting_over, rooting_empty, rooting_frame, rooting_back, rooting_up}
+use Rattle.lend_code.proofs.LineFrames.{rooting_none, rooting_over, rooting_empty, rooting_frame, rooting_back, rooting_up}
 use Rattle.board.proofs.Board.rooted_frame.Goals as goal
 
 pub loop-init : goal.loop-init

@@ -1,5 +1,5 @@
 -- `rooted_frame` meets its contract. The invariant is `Rooting`: what is left to find, from the page at on, is what the walk is to find.
-use Rattle.lend_code.proofs.LineWalks.{Rooting}
+use Rattle.lend_code.proofs.LineFrames.{Rooting}
 use Rattle.board.specs.Model.{sizes}
 use Rattle.board.proofs.Board.rooted_frame.Given as goal
 
