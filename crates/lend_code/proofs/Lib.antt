@@ -17,3 +17,5 @@ pub mod LendingCalls
 pub mod Access
 pub mod Ranges
 pub mod RangeLoop
+pub mod AddedTests
+pub mod Cuts
