@@ -1,9 +1,12 @@
-use Rattle.std.proofs.Common.{◌≡◌, not, ◌&&◌, nat_eq, ℕ, ◌+◌, ◌-◌, ◌*◌, ◌<◌, ◌≤◌, length}
-use Rattle.lend_summary.specs.Counts.{count_less, less_at}
-use Rattle.lend_code.specs.Inner.{rights_of, counts_at, summary_with, counted_in16, more_in, losses_of, with_summary}
-use Rattle.board.specs.Model.{sizes}
-use Rattle.board.specs.Board.{tables}
-use Rattle.board.proofs.Board.tally.Given as goal
+-- `tally` meets its contract. The invariant: the pages before k are counted.
+use Rattle.board.proofs as own
+use Rattle.board.specs as spec
+use Rattle.lend_code.specs.Inner.{rights_of}
+use Rattle.lend_code.proofs.Summary.{Tallied}
+use spec.Model.{sizes}
+use own.Board.tally.Given as goal
 
 abbrev pub invariant-loop-k : goal.invariant-loop-k
-invariant-loop-k g l = ?
+invariant-loop-k g l =
+    let z = sizes g.row.SPACES g.row.PAGES g.row.PLACES in
+    Tallied z (rights_of z l.self.slots) l.frames l.counts l.k
