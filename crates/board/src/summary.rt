@@ -40,7 +40,7 @@ fn without(count: Count, lost: Count) -> Count
 }
 
 // Whether there were rights before and are none after.
-fn gone(before: u8, after: u8) -> bool
+pub(crate) fn gone(before: u8, after: u8) -> bool
     ensures { result ≡ (not (nat_eq before 0) && nat_eq after 0) }
 {
     before != 0 && after == 0

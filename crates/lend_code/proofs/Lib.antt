@@ -19,3 +19,5 @@ pub mod Ranges
 pub mod RangeLoop
 pub mod LineWalks
 pub mod LineFrames
+pub mod AddedTests
+pub mod Cuts
