@@ -12,18 +12,6 @@ use Rattle.board.specs.Model.{sizes}
 use Rattle.board.proofs.Searches.{found_some, found_none}
 use Rattle.board.proofs.Board.insert.Goals as goal
 
-pub offset_bounds-self-at : goal.offset_bounds-self-at
-offset_bounds-self-at g c =
-    let long : length c.args.self.now.cache.places ≡ g.row.PLACES = search (rules, length_unmap) in
-    let at = found_some _ _ _ c.in-Some.ensures in
-    omega (arith, at.1, long, c.args.self.now.shape.is_model.few_places)
-
-pub bounds-self-at : goal.bounds-self-at
-bounds-self-at g c =
-    let long : length c.args.self.now.cache.places ≡ g.row.PLACES = search (rules, length_unmap) in
-    let at = found_some _ _ _ c.in-Some.ensures in
-    omega (arith, at.1, long)
-
 pub returns-in-Some : goal.returns-in-Some
 returns-in-Some g c =
     let b = c.args.self.now in
