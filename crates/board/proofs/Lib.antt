@@ -1,1 +1,2 @@
 pub mod Boards
+pub mod Searches

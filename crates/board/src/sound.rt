@@ -37,6 +37,7 @@ impl<const SPACES: usize, const PAGES: usize, const SLOTS: usize, const PLACES: 
     }
 
     // Whether page k, with these rights, may be lent by a page of the space that keeps the slot up.
+    #[tactic(auto, unfolding(lend_code::specs::Inner::lent_fits))]
     fn lent_fits(&self, up: Slot, k: usize, rights: u8, space: u8, page: u8) -> bool
         ensures { result ≡ lent_fits (sizes SPACES PAGES PLACES) self.now.live up k rights space page }
     {
@@ -51,22 +52,25 @@ impl<const SPACES: usize, const PAGES: usize, const SLOTS: usize, const PLACES: 
             && lend::within(rights, up.rights)
     }
 
+    // The slot of page k; past the last page an empty one.
+    fn slot(&self, k: usize) -> Slot
+        ensures { result ≡ slot_at self.now.slots k }
+    {
+        self.slots.get(k).copied().unwrap_or(Slot::EMPTY)
+    }
+
     // Whether page k may keep its slot, its line aside.
+    #[tactic(auto, unfolding(lend::specs::SoundTest::slot_test, lend_code::specs::Inner::lent_fits))]
     fn slot_fits(&self, k: usize) -> bool
         ensures { result ≡ slot_test (sizes SPACES PAGES PLACES) self.now.live (slot_at self.now.slots) k }
     {
-        let slot = if k < SLOTS {
-            self.slots[k]
-        } else {
-            Slot::EMPTY
-        };
-        let rights = slot.rights;
+        let slot = self.slot(k);
         match slot.link {
-            Link::Nothing => PAGES <= k && rights == 0,
-            Link::Frame(frame) => k < PAGES && usize::from(frame) == k && rights == 7,
+            Link::Nothing => PAGES <= k && slot.rights == 0,
+            Link::Frame(frame) => k < PAGES && usize::from(frame) == k && slot.rights == 7,
             Link::Page(space, page) => {
-                let up = self.slots[self.shape.inside(self.shape.key(space, page))];
-                PAGES <= k && self.lent_fits(up, k, rights, space, page)
+                let up = self.slot(self.shape.key(space, page));
+                PAGES <= k && self.lent_fits(up, k, slot.rights, space, page)
             }
         }
     }
@@ -79,6 +83,7 @@ impl<const SPACES: usize, const PAGES: usize, const SLOTS: usize, const PLACES: 
     }
 
     // Whether the place names a page of these rights and this frame.
+    #[tactic(auto, unfolding(lend_code::specs::Inner::place_fits))]
     fn place_fits(&self, place: Place, rights: u8, frame: u8) -> bool
         ensures { result ≡ place_fits (sizes SPACES PAGES PLACES) rights frame place }
     {

@@ -5,6 +5,7 @@ pub mod QuickLines
 pub mod Columns
 pub mod Summary
 pub mod Cache
+pub mod Drops
 pub mod SoundCode
 pub mod Withdrawals
 pub mod Sets
