@@ -117,6 +117,7 @@ impl<const SPACES: usize, const PAGES: usize, const SLOTS: usize, const PLACES: 
     }
 
     // This frame has one page more, of these rights.
+    #[tactic(auto, unfolding(lend_code::specs::Inner::more_in))]
     pub fn count_more(&mut self, frame: usize, rights: u8)
         ensures { tables self.new ≡ with_summary (tables self.old) (more_in self.old.summary frame rights) }
     {

@@ -17,9 +17,6 @@ use Rattle.lend_code.proofs.Cuts.{cutting_turn, cutting_all}
 use spec.Board.{tables, with_slots}
 use own.Board.cut.Goals as goal
 
-pub loop-k-init : goal.loop-k-init
-loop-k-init g c = (changed_none _ _ _, refl)
-
 pub loop-k-preserved : goal.loop-k-preserved
 loop-k-preserved g c =
     let long : length c.args.self.now.slots ≡ g.row.SLOTS = search (rules, length_unmap) in
