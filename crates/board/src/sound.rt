@@ -79,7 +79,12 @@ impl<const SPACES: usize, const PAGES: usize, const SLOTS: usize, const PLACES: 
     fn slots_fit(&self) -> bool
         ensures { result ≡ every (slot_count (sizes SPACES PAGES PLACES)) (slot_test (sizes SPACES PAGES PLACES) self.now.live (slot_at self.now.slots)) }
     {
-        (0..SLOTS).all(|k| self.slot_fits(k))
+        for k in 0..SLOTS {
+            if !self.slot_fits(k) {
+                return false;
+            }
+        }
+        true
     }
 
     // Whether the place names a page of these rights and this frame.
