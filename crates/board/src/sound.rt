@@ -1,13 +1,14 @@
 // The test of soundness. It takes any board: the slots first, then the lines, which may be walked once every slot fits, then
 // the cache and the summary, which are held against the rights, frames and counts that were found.
-ghost use Rattle.std.specs.Prelude.{◌≡◌, ◌&&◌, cond, Some, None, Ok, Err};
+ghost use Rattle.std.specs.Prelude.{◌≡◌, ◌<◌, cond, Some, None, Ok, Err};
 ghost use Rattle.lend.specs.Sizes.{slot_count};
 ghost use Rattle.lend.specs.Lists.{every};
 ghost use Rattle.lend.specs.Slots.{slot_at};
 ghost use Rattle.lend.specs.Tables.{alive};
+ghost use Rattle.lend.specs.Cache.{place_at};
 ghost use Rattle.lend.specs.SoundTest.{slot_test, pages_test, is_empty_place, sound_test, Tells};
 ghost use Rattle.lend.specs.declared.refusal.Refusal.TheVariants.{Unsound};
-ghost use Rattle.lend_code.specs.Inner.{lent_fits, link_fits, place_fits, places_fit};
+ghost use Rattle.lend_code.specs.Inner.{lent_fits, place_fits, place_ok, places_fit};
 ghost use Rattle.board.specs.Model.{sizes};
 ghost use Rattle.board.specs.Board.{tables};
 ghost use Rattle.board.specs.Found.{pages_of};
@@ -99,16 +100,24 @@ impl<const SPACES: usize, const PAGES: usize, const SLOTS: usize, const PLACES: 
             && place.rights == rights
     }
 
+    // Whether place i is empty, or is the lowest for its page and has that page's frame and rights.
+    fn place_ok(&self, i: usize, rights: &[u8; SLOTS], frames: &[u8; SLOTS]) -> bool
+        requires { i < PLACES }
+        ensures { result ≡ place_ok (sizes SPACES PAGES PLACES) rights.now frames.now self.now.cache.places i (place_at self.now.cache.places i) }
+    {
+        let place = self.cache.places[i];
+        let at = self.shape.inside(self.shape.key(place.space, place.page));
+        place == Place::EMPTY
+            || (self.place_fits(place, rights[at], frames[at])
+                && self.cache.place_for(place.space, place.page) == Some(i))
+    }
+
     // Whether every place is empty, or is the only one for its page and has that page's frame and rights.
     fn places_fit(&self, rights: &[u8; SLOTS], frames: &[u8; SLOTS]) -> bool
         ensures { result ≡ places_fit (sizes SPACES PAGES PLACES) rights.now frames.now self.now.cache.places }
     {
         for i in 0..PLACES {
-            let place = self.cache.places[i];
-            let at = self.shape.inside(self.shape.key(place.space, place.page));
-            let fits = self.place_fits(place, rights[at], frames[at]);
-            let first = self.cache.place_for(place.space, place.page);
-            if !(place == Place::EMPTY || (fits && first == Some(i))) {
+            if !self.place_ok(i, rights, frames) {
                 return false;
             }
         }
