@@ -128,15 +128,15 @@ impl<const SPACES: usize, const PAGES: usize, const SLOTS: usize, const PLACES: 
     pub fn examine(&self) -> Option<Pages<PAGES, SLOTS>>
         ensures { result ≡ cond (pages_test (sizes SPACES PAGES PLACES) self.now.live (slot_at self.now.slots)) (Some (pages_of (sizes SPACES PAGES PLACES) self.now.slots)) None }
     {
-        if !(self.is_live(0) && self.is_live(1) && self.slots_fit()) {
-            return None;
+        if self.is_live(0) && self.is_live(1) && self.slots_fit() {
+            let frames = self.frames()?;
+            return Some(Pages {
+                rights: self.rights(),
+                frames,
+                counts: self.tally(&frames),
+            });
         }
-        let frames = self.frames()?;
-        Some(Pages {
-            rights: self.rights(),
-            frames,
-            counts: self.tally(&frames),
-        })
+        None
     }
 
     // What is found of the pages, where the whole board is sound.
