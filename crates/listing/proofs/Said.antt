@@ -101,6 +101,15 @@ fits_back z r h = record {
   rights_to = leb→le r.rights all_rights (search (and_l, and_r) depth 12);
 }
 
+-- a row that is let through is one
+pub let_through : (z : Sizes) (o : Option Row) (r : Row) → Some r ≡ fitting z o → RowFits z r
+let_through z None r e = absurd (cc)
+let_through z (Some q) r e = go (row_fits z q) refl e
+  where
+    go : (t : Bool) → row_fits z q ≡ t → Some r ≡ cond t (Some q) None → RowFits z r
+    go false h e = absurd (cc)
+    go true h e = let i : q ≡ r = cc in rw (← i) (fits_back z q (true_is _ h))
+
 fits_row : (z : Sizes) (r : Row) → RowFits z r → T (row_fits z r)
 unfolding row_fits
 fits_row z r h =
