@@ -2,7 +2,7 @@
 // unsound board at the end, and with each refusal the start board comes back.
 ghost use Rattle.std.specs.Prelude.{◌≡◌, T};
 ghost use Rattle.listing.specs.Content.{row_key, row_slot, board_with};
-ghost use Rattle.listing.specs.Read.{refused as refused_of, judged as judged_of, reading, page_fits, row_in};
+ghost use Rattle.listing.specs.Read.{refused as refused_of, judged as judged_of, reading, row_in, row_fits, fitting};
 ghost use Rattle.listing.specs.Loop.{read_from};
 ghost use Rattle.entry.specs.Sizes.{sizes};
 ghost use Rattle.entry_listing.specs.Answer.{answer};
@@ -12,11 +12,10 @@ use calls::start::start;
 use entry as model;
 use entry_calls as calls;
 use lend::{Link, Slot};
-use listing::read::{ended, held_fields, live_fields, one_fits, page_fields, refusal, rises};
+use listing::read::{Row, ended, held_line, live_line, page_line, refusal, rises};
 use model::sizes::{PAGES, PLACES, SLOTS, SPACES};
 use model::sound::examine;
 use model::{Board, Cache};
-use text::Fields;
 use text::line::line_end;
 
 // What the reader answers: the number, and the board.
@@ -61,35 +60,43 @@ fn judged(formed: bool, ordered: bool, slots: [Slot; SLOTS], live: u32) -> Read
     }
 }
 
-// Whether the line is a page's, with every number in its field.
-fn page_fits(f: Fields) -> bool
-    ensures { result ≡ page_fits sizes f }
+// Whether every number of the row is in its field.
+fn row_fits(row: Row) -> bool
+    ensures { result ≡ row_fits sizes row }
 {
-    f.ok & (1 <= f.first)
-        & ((f.first as usize) < SPACES)
-        & ((f.second as usize) < PAGES)
-        & ((f.third as usize) < SPACES)
-        & ((f.fourth as usize) < PAGES)
-        & (1 <= f.fifth)
-        & (f.fifth <= 7)
+    (1 <= row.space)
+        & ((row.space as usize) < SPACES)
+        & ((row.page as usize) < PAGES)
+        & ((row.parent as usize) < SPACES)
+        & ((row.at as usize) < PAGES)
+        & (1 <= row.rights)
+        & (row.rights <= 7)
 }
 
-// The page that the line names.
-fn page_of(f: Fields) -> usize
-    requires { T (page_fits sizes f) }
-    ensures { result ≡ row_key sizes (row_in f) }
+// The row of a page's line, where every number is in its field.
+fn row_of(line: &[u8]) -> Option<Row>
+    ensures { result ≡ fitting sizes (row_in line.now) }
 {
-    f.first as usize * PAGES + f.second as usize
+    let row = page_line(line)?;
+    if row_fits(row) { Some(row) } else { None }
 }
 
-// What the page keeps by its line.
-fn slot_of(f: Fields) -> Slot
-    requires { T (page_fits sizes f) }
-    ensures { result ≡ row_slot (row_in f) }
+// The page that the row names.
+fn page_of(row: Row) -> usize
+    requires { T (row_fits sizes row) }
+    ensures { result ≡ row_key sizes row }
+{
+    row.space as usize * PAGES + row.page as usize
+}
+
+// What the page keeps by its row.
+fn slot_of(row: Row) -> Slot
+    requires { T (row_fits sizes row) }
+    ensures { result ≡ row_slot row }
 {
     Slot {
-        link: Link::Page(f.third as u8, f.fourth as u8),
-        rights: f.fifth as u8,
+        link: Link::Page(row.parent as u8, row.at as u8),
+        rights: row.rights as u8,
     }
 }
 
@@ -106,16 +113,16 @@ fn read_from(text: &[u8], live: u32, at: usize) -> Read
     while from < text.len() {
         let end = line_end(text, from);
         if text.len() <= end + 1 {
-            let held = held_fields(&text[from..end]);
-            let formed = one_fits(held, (SLOTS - PAGES) as u32);
-            return judged(formed, rising & (count == held.first as usize), slots, live);
+            let Some(held) = held_line(&text[from..end], (SLOTS - PAGES) as u32) else {
+                return refused(17);
+            };
+            return judged(true, rising & (count == held as usize), slots, live);
         }
-        let f = page_fields(&text[from..end]);
-        if !page_fits(f) {
+        let Some(row) = row_of(&text[from..end]) else {
             return refused(17);
-        }
-        let k = page_of(f);
-        slots[k] = slot_of(f);
+        };
+        let k = page_of(row);
+        slots[k] = slot_of(row);
         rising = rises(rising, last, k);
         last = k;
         count += 1;
@@ -132,9 +139,9 @@ pub fn read_listing(text: &[u8]) -> Read
         return refused(17);
     }
     let end = line_end(text, 0);
-    let first = live_fields(&text[..end]);
-    if !one_fits(first, live_number([true; SPACES])) {
+    let most = live_number([true; SPACES]);
+    let Some(live) = live_line(&text[..end], most) else {
         return refused(17);
-    }
-    read_from(text, first.first, end + 1)
+    };
+    read_from(text, live, end + 1)
 }

@@ -74,7 +74,7 @@ fn garbled(b: Board) -> Turned
 
 // What a request does, by the call that it is.
 fn judge(b: Board, request: Request) -> Turned
-    ensures { turned result ≡ spoken request (judged sizes (alone (tables b)) request) }
+    ensures { turned result ≡ spoken (Some request) (judged sizes (alone (tables b)) (Some request)) }
 {
     match request {
         Request::Create { space } => answered(create(b, space)),
@@ -108,7 +108,6 @@ fn judge(b: Board, request: Request) -> Turned
             address,
             rights,
         } => looked(translate(b, space, address, rights)),
-        Request::Malformed => garbled(b),
     }
 }
 
@@ -122,6 +121,8 @@ pub(crate) fn line_turn(b: Board, line: &[u8]) -> Turned
             said: Said::Silent,
         };
     }
-    let request = parse(line);
-    judge(b, request)
+    match parse(line) {
+        Some(request) => judge(b, request),
+        None => garbled(b),
+    }
 }

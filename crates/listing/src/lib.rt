@@ -14,7 +14,7 @@ use lend::{Link, Slot};
 fn wide(byte: u8) -> u32
     ensures { result ≡ byte }
 {
-    byte as u32
+    u32::from(byte)
 }
 
 // Writes the listing's line of a page that keeps this slot, and nothing where it is empty.

@@ -2,12 +2,11 @@
 use Rattle.entry_listing.proofs as own
 use Prim.Native.Nat.{ℕ, ◌≤◌}
 use mathlib.Core.Path.{sym, ap, ◌∙◌}
-use mathlib.Core.Bool.{◌&&◌}
 use native.Mathlib.Omega.{arith}
-use lib.Dec.{leb}
-use lib.ListN.{length}
+use lib.ListN.{length, take}
 use lib.Seq.{length-take-le}
 use Rattle.text.proofs.Seeking.{line_within}
+use Rattle.listing.specs.Read.{live_in}
 use Rattle.listing.proofs.Loop.{not_ended, first_bad, first_read}
 use Rattle.entry.specs.Sizes.{sizes}
 use borrow.Author.Rules.{rules}
@@ -16,20 +15,17 @@ use own.read.read_listing.Goals as goal
 pub returns-then-not-ended : goal.returns-then-not-ended
 returns-then-not-ended c = c.refused.ensures ∙ not_ended sizes _ (sym c.ended.ensures ∙ c.if-not-ended.true)
 
-pub slice_bounds-live_fields-end : goal.slice_bounds-live_fields-end
-slice_bounds-live_fields-end c =
+pub slice_bounds-live_line-end : goal.slice_bounds-live_line-end
+slice_bounds-live_line-end c =
     let text = c.args.text.now in
     let h : c.line_end-end.result ≤ length text = line_within _ 0 _ c.line_end-end.ensures (omega arith) in
     sym (length-take-le {A = ℕ} c.line_end-end.result text h)
 
-pub returns-then-not-one_fits : goal.returns-then-not-one_fits
-returns-then-not-one_fits c =
-    let first = c.live_fields-first in
-    let most = ap (λ (m : ℕ). first.result.ok && leb first.result.first m) c.live_number.ensures in
-    c.refused-then-not-one_fits.ensures
-    ∙ first_bad sizes _ (sym c.ended.ensures ∙ c.if-not-ended.false) c.line_end-end.ensures
-    first.ensures
-    (sym (c.one_fits.ensures ∙ most) ∙ c.if-not-one_fits.true)
+pub returns-in_default : goal.returns-in_default
+returns-in_default c =
+    let most = ap (λ (m : ℕ). live_in m (take c.line_end-end.result c.args.text.now)) c.live_number-most.ensures in
+    c.refused-in_default.ensures
+    ∙ first_bad sizes _ (sym c.ended.ensures ∙ c.if-not-ended.false) c.line_end-end.ensures (c.in_default.ensures ∙ most)
 
 pub overflow_add-end : goal.overflow_add-end
 overflow_add-end c =
@@ -38,9 +34,6 @@ overflow_add-end c =
 
 pub returns : goal.returns
 returns c =
-    let first = c.live_fields-first in
-    let most = ap (λ (m : ℕ). first.result.ok && leb first.result.first m) c.live_number.ensures in
+    let most = ap (λ (m : ℕ). live_in m (take c.line_end-end.result c.args.text.now)) c.live_number-most.ensures in
     c.read_from.ensures
-    ∙ first_read sizes _ (sym c.ended.ensures ∙ c.if-not-ended.false) c.line_end-end.ensures
-    first.ensures
-    (sym (c.one_fits.ensures ∙ most) ∙ c.if-not-one_fits.false)
+    ∙ first_read sizes _ (sym c.ended.ensures ∙ c.if-not-ended.false) c.line_end-end.ensures (c.in-Some.ensures ∙ most)
