@@ -1,6 +1,6 @@
 // A script run into a lent buffer, for every input and every buffer: from the start board, or from the board of a listing.
-ghost use Rattle.std.specs.Prelude.{◌≡◌, ◌≤◌, take};
-ghost use Rattle.text.specs.Write.{Wrote};
+ghost use Rattle.std.specs.Prelude.{◌≡◌, ◌≤◌, length, take};
+ghost use Rattle.text.specs.Writer.{writes};
 ghost use Rattle.listing.specs.Read.{reading};
 ghost use Rattle.script.specs.Script.{input_limit, output_of};
 ghost use Rattle.script.specs.From.{output_by};
@@ -19,7 +19,7 @@ use lists::read::{Read, read_listing};
 use model::Board;
 use model::sizes::{PAGES, SLOTS};
 use script::{FOR_A_BYTE, FOR_A_PAGE, FOR_THE_END, INPUT_LIMIT};
-use text::write::put_refused;
+use text::write::Writer;
 
 // The most that a script of so many bytes can print.
 fn bound(bytes: usize) -> usize
@@ -29,24 +29,19 @@ fn bound(bytes: usize) -> usize
     FOR_A_BYTE * (bytes + 1) + FOR_A_PAGE * (SLOTS - PAGES) + FOR_THE_END
 }
 
-// The most that a script of this length can print, of which no more is read than the limit.
+// The first bytes, as many as are read.
+fn first(bytes: &[u8]) -> &[u8]
+    ensures bytes { result.now ≡ take input_limit bytes.now }
+    ensures within { length result.now ≤ input_limit }
+{
+    bytes.get(..INPUT_LIMIT).unwrap_or(bytes)
+}
+
+// The most that a script of this length can print.
 fn enough(input: &[u8]) -> usize
     ensures { result ≡ enough_of sizes input.now }
 {
-    if input.len() <= INPUT_LIMIT {
-        return bound(input.len());
-    }
-    bound(INPUT_LIMIT)
-}
-
-// Runs the first bytes of the input, as many as are read.
-fn run_first(board: Board, input: &[u8], output: &mut [u8]) -> usize
-    ensures { Wrote output.old 0 (output_of sizes (tables board) (take input_limit input.now)) output.new result }
-{
-    if input.len() <= INPUT_LIMIT {
-        return run_lines(board, input, output);
-    }
-    run_lines(board, &input[..INPUT_LIMIT], output)
+    bound(first(input).len())
 }
 
 // Runs the script from the start board, and answers how many bytes of output stand at the buffer's start; none is written where the
@@ -57,27 +52,20 @@ pub fn run(input: &[u8], output: &mut [u8]) -> usize
     if output.len() < enough(input) {
         return 0;
     }
-    run_first(start(), input, output)
-}
-
-// Reads the first bytes of a listing, as many as are read.
-fn read_first(listing: &[u8]) -> Read
-    ensures { answer result ≡ reading sizes (take input_limit listing.now) }
-{
-    if listing.len() <= INPUT_LIMIT {
-        return read_listing(listing);
-    }
-    read_listing(&listing[..INPUT_LIMIT])
+    let mut out = Writer::new(output);
+    run_lines(start(), first(input), &mut out);
+    out.at()
 }
 
 // Runs the script from the board that was read; a listing that was refused prints its number alone.
-fn run_read(read: Read, input: &[u8], output: &mut [u8]) -> usize
-    ensures { Wrote output.old 0 (output_by sizes (answer read) input.now) output.new result }
+fn run_read(read: Read, input: &[u8], out: &mut Writer<'_>)
+    ensures { out.new ≡ writes out.old (output_by sizes (answer read) input.now) }
 {
     if read.number == 0 {
-        return run_first(read.board, input, output);
+        run_lines(read.board, first(input), out);
+    } else {
+        out.refused(read.number);
     }
-    put_refused(output, 0, read.number)
 }
 
 // Runs the script from the board of a listing, in a buffer of the same length.
@@ -87,5 +75,7 @@ pub fn run_from(listing: &[u8], input: &[u8], output: &mut [u8]) -> usize
     if output.len() < enough(input) {
         return 0;
     }
-    run_read(read_first(listing), input, output)
+    let mut out = Writer::new(output);
+    run_read(read_listing(first(listing)), input, &mut out);
+    out.at()
 }

@@ -1,9 +1,11 @@
 // The lines of a listing, read from a slice: once for both models.
 ghost use Rattle.std.specs.Prelude.{◌≡◌, [], ◌∷◌};
 ghost use Rattle.text.specs.Fields.{fields};
-ghost use Rattle.listing.specs.Read.{ended as ended_of, up_to, live_in, held_in, row_in, refusal as refusal_of};
+ghost use Rattle.listing.specs.Read.{ended as ended_of, up_to, live_in, held_in, row_in, refusal};
+ghost use Rattle.lend.specs.Refusals.{answer_of};
 ghost use Rattle.listing.specs.Loop.{rises_to};
 
+use lend::{Refusal, first_refusal};
 use text::read::fields;
 
 // What the line of a held page says: the page, its parent, and its rights.
@@ -69,11 +71,13 @@ pub fn rises(rising: bool, last: usize, next: usize) -> bool
     rising & (last < next)
 }
 
-// The number of a text by what was found of it; 0 where nothing is against it.
-pub fn refusal(formed: bool, ordered: bool, sound: bool) -> u32
-    ensures { result ≡ refusal_of formed ordered sound }
+// What refuses a text, by what was found of it.
+pub fn judged(formed: bool, ordered: bool, sound: bool) -> Result<(), Refusal>
+    ensures { answer_of result ≡ refusal formed ordered sound }
 {
-    let n = lend::pick(!sound, 1, 0);
-    let n = lend::pick(!ordered, 18, n);
-    lend::pick(!formed, 17, n)
+    first_refusal(&[
+        (!formed, Refusal::MalformedListing),
+        (!ordered, Refusal::DisorderedListing),
+        (!sound, Refusal::Unsound),
+    ])
 }

@@ -9,7 +9,6 @@ use Rattle.listing.specs.Listing.{listing_of}
 use Rattle.listing.proofs.Length.{listing_length}
 use Rattle.listing.proofs.Filled.{unsound_written, short_written, whole_written}
 use Rattle.entry.specs.Sizes.{sizes}
-use borrow.Author.Rules.{rules}
 use own.write.write_listing.Goals as goal
 
 far : (b : Tables) → length (listing_of sizes b) ≤ last_position
@@ -19,12 +18,9 @@ pub returns-then-not-sound : goal.returns-then-not-sound
 returns-then-not-sound c = unsound_written sizes _ c.sound.ensures c.if-not-sound.true
 
 pub returns-then-out-length : goal.returns-then-out-length
-returns-then-out-length c =
-    short_written sizes _ c.sound.ensures c.if-not-sound.false c.put_listing-length.ensures (far _) _
-    (search rules)
+returns-then-out-length c = short_written sizes _ c.sound.ensures c.if-not-sound.false c.list_into-length.ensures (far _) _ c.if-out-length.true
 
 pub returns : goal.returns
 returns c =
-    whole_written sizes _ c.sound.ensures c.if-not-sound.false c.put_listing-length.ensures (far _) _
-    (search rules)
-    c.put_listing-length-2.ensures
+    whole_written sizes _ c.sound.ensures c.if-not-sound.false c.list_into-length.ensures (far _) _ c.if-out-length.false
+    c.list_into-length-2.ensures

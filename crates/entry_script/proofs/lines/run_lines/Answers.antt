@@ -19,7 +19,7 @@ slice_bounds-line_turn-end c =
 pub loop-from-preserved : goal.loop-from-preserved
 loop-from-preserved c =
     run_turn c.loop-from.invariant (search rules) c.line_end-end.ensures c.line_turn-turn.ensures
-    c.say-at.ensures
+    c.say.ensures
 
 pub returns : goal.returns
 returns c = run_end c.loop-from.invariant (search rules) c.put_listing.ensures

@@ -1,4 +1,4 @@
--- `run_lines` meets its contract. The invariant: what is left to print gives all that is to be printed.
+-- `run_lines` meets its contract. The invariant: who prints the rest has printed all.
 use Rattle.entry_script.proofs as own
 use Prim.Native.Nat.{◌-◌}
 use lib.ListN.{length}
@@ -10,7 +10,7 @@ use own.lines.run_lines.Given as goal
 
 abbrev pub invariant-loop-from : goal.invariant-loop-from
 invariant-loop-from l =
-    Running sizes (tables l.initial.board) l.input l.initial.out l.out (alone (tables l.board)) l.line l.from l.at
+    Running sizes (tables l.initial.board) l.input l.initial.out l.out (alone (tables l.board)) l.line l.from
 
 abbrev pub decreases-loop-from : goal.decreases-loop-from
 decreases-loop-from l = length l.input - l.from
