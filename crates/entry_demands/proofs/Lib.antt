@@ -1,5 +1,0 @@
-pub mod Chain
-pub mod Unique
-pub mod RangeChain
-pub mod GivenAway
-pub mod Links
