@@ -1,24 +1,23 @@
 #!/usr/bin/env python3
-"""models.py [--check | --differences]: the premium model's C exports and programs, made from the entry model's.
+"""models.py [--check]: the premium model's functions for C and its programs, made from the entry model's.
 
-The board and its calls are one text for both models: their sizes are const parameters. What C and the shell know by name can't be: a
-function for C has one name and no parameters of its type, and each program has a main of its own. Those crates are one text too: this
-program copies every file of the entry model's with the premium model's name put in, and so makes lend_premium, the two premium programs,
-their lines of crates.txt and the premium part of include/lend.h. Nobody edits what it makes: change the entry text and run it again.
+The board and its calls are one text for both models: their sizes are const parameters. What C and the shell know by a name is there once
+for each: a function for C has one name and no const parameters, and a program has one main. These crates hold no working, and they are one
+text too: this program copies every file of the entry model's with the premium model's name put in, and so makes lend_premium, the two
+premium programs, their lines of crates.txt and the premium part of include/lend.h. Nobody edits what it makes: change the entry text and
+run it again.
 
 --check writes nothing and fails where a file differs from what would be made, is missing, or was not made by it.
---differences prints where the two models' texts differ, line by line.
 """
 import contextlib
-import difflib
 import os
 import re
 import subprocess
 import sys
 import tempfile
 
-# what differs between the two models in include/lend.h; in the code these numbers stand once, in crate board
-SIZES = {'SPACES': 16, 'PAGES': 64, 'SLOTS': 1024, 'PLACES': 16}
+# the premium model's sizes in include/lend.h; in the code they stand once, in crates/board/src/shape.rt
+SIZES = {'SPACES': 16, 'PAGES': 64, 'PLACES': 16}
 CRATES = {
     'lend_entry': 'lend_premium',
     'board_script': 'board_script_premium',
@@ -32,12 +31,10 @@ HEADER = ('/* ---- the entry model -', '/* ---- the premium model: made from the
 
 
 def renamed(text):
-    """The text with the premium model's name where the entry model is meant."""
-    text = re.sub(r'\b(lend[_-])entry(?=\b|_)', r'\1premium', text)
-    text = re.sub(r'(?<=Sizes\.\{)entry(?= as sizes\})', 'premium', text)
-    text = re.sub(r'\bENTRY\b', 'PREMIUM', text)
-    text = re.sub(r'\bboard_script(_from)?\b', r'board_script\1_premium', text)
-    return re.sub(r'\bLEND_ENTRY(?=_)', 'LEND_PREMIUM', text)
+    """The text with the premium model's name where it has the entry model's, as a word or as a part of a name; a field `.entry` stays."""
+    text = re.sub(r'(?<![a-z.])entry(?![a-z])', 'premium', text)
+    text = re.sub(r'(?<![A-Z])ENTRY(?![A-Z])', 'PREMIUM', text)
+    return re.sub(r'\bboard_script(_from)?\b', r'board_script\1_premium', text)
 
 
 def renamed_path(path):
@@ -63,14 +60,9 @@ def files(crate):
         yield from (f'{folder}/{name}' for name in sorted(names))
 
 
-def crate_files(marked):
-    """Every file of the premium crates, by its path; marked, with the line that says where it comes from."""
-    made = {}
-    for crate in CRATES:
-        for path in files(crate):
-            text = renamed(open(path).read())
-            made[renamed_path(path)] = said(path, text) if marked else text
-    return made
+def crate_files():
+    """Every file of the premium crates, by its path."""
+    return {renamed_path(path): said(path, renamed(open(path).read())) for crate in CRATES for path in files(crate)}
 
 
 def listed():
@@ -106,7 +98,7 @@ def formatted(made):
 
 
 def all_made():
-    return formatted({**crate_files(True), 'crates.txt': listed()}) | {'include/lend.h': header()}
+    return formatted({**crate_files(), 'crates.txt': listed()}) | {'include/lend.h': header()}
 
 
 def strangers(made):
@@ -136,20 +128,9 @@ def check(made):
     return 1 if wrong else 0
 
 
-def differences():
-    """Where an entry file and its premium file differ: in the model's name alone."""
-    for crate in CRATES:
-        for path in files(crate):
-            text = open(path).read()
-            for line in difflib.unified_diff(text.splitlines(), renamed(text).splitlines(), path, renamed_path(path), lineterm='', n=0):
-                print(line)
-
-
 if __name__ == '__main__':
     os.chdir(os.path.dirname(os.path.dirname(os.path.abspath(__file__))))
-    if sys.argv[1:] == ['--differences']:
-        differences()
-    elif sys.argv[1:] == ['--check']:
+    if sys.argv[1:] == ['--check']:
         sys.exit(check(all_made()))
     elif not sys.argv[1:]:
         write(all_made())
