@@ -1,29 +1,25 @@
--- What the reader and the writer of this model answer, as the definitions have it; nothing is lost.
-use Rattle.std.specs.Prelude.{ℕ, ◌≡◌, refl, List}
-use Rattle.listing.specs.Read.{Answer}
-use Rattle.listing.specs.Write as listing
-use Rattle.entry.specs.Board.{tables, board_of}
-use Rattle.entry_listing.specs.declared.read.Read.{Read}
-use Rattle.entry_listing.specs.declared.write.Written.{Written}
+-- What the reader and the writer of a listing answer, as the definitions have it.
+use Rattle.std.specs.Prelude.{ℕ, List}
+use Rattle.std.specs.declared.result.Result.{Result}
+use Rattle.std.specs.declared.result.Result.TheVariants.{Ok, Err}
+use Rattle.lend.specs.declared.refusal.Refusal.{Refusal}
+use Rattle.lend.specs.Sizes.{Sizes}
+use Rattle.lend.specs.Refusals.{number_of, answer_of}
+use Rattle.listing.specs.Read.{Answer, accepted, refused}
+use Rattle.listing.specs.Write.{Written, written}
+use Rattle.board.specs.declared.Board.{Board}
+use Rattle.board.specs.Board.{tables}
 
--- the number and the board that was read
-abbrev pub answer : Read → Answer
-answer r = record { number = r.number; board = tables r.board }
+-- the number 0 and the board that was read; with a refusal's number stands the start board
+abbrev pub answer : {spaces pages slots places : ℕ} → Sizes → Result (Board spaces pages slots places) Refusal → Answer
+answer z (Ok b) = accepted (tables b)
+answer z (Err r) = refused z (number_of r)
 
--- and back
-abbrev pub read_of : Answer → Read
-read_of a = record { number = a.number; board = board_of a.board }
-
-pub read_of_answer : (r : Read) → read_of (answer r) ≡ r
-read_of_answer r = refl
+-- how many bytes were written, none with a refusal
+abbrev pub length_of : Result ℕ Refusal → ℕ
+length_of (Ok n) = n
+length_of (Err r) = 0
 
 -- the number, the length written, and the buffer
-abbrev pub filled : Written → List ℕ → listing.Written
-filled w out = listing.written w.number w.length out
-
--- and back
-abbrev pub written_of : listing.Written → Written
-written_of w = record { number = w.number; length = w.count }
-
-pub written_of_filled : (w : Written) (out : List ℕ) → written_of (filled w out) ≡ w
-written_of_filled w out = refl
+abbrev pub filled : Result ℕ Refusal → List ℕ → Written
+filled r out = written (answer_of r) (length_of r) out

@@ -1,4 +1,4 @@
-// The listing of a board of this model: written, and read back.
+// The listing of a board: written, and read back.
 #![tactic(auto)]
 
 mod live;

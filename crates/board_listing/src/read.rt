@@ -1,97 +1,75 @@
 // A board read from its listing. Any bytes are taken: malformed ones are refused where the first of them is found, disorder and an
-// unsound board at the end, and with each refusal the start board comes back.
+// unsound board at the end.
 ghost use Rattle.std.specs.Prelude.{◌≡◌, T};
 ghost use Rattle.listing.specs.Content.{row_key, row_slot, board_with};
-ghost use Rattle.listing.specs.Read.{refused as refused_of, judged as judged_of, reading, row_in, row_fits, fitting};
+ghost use Rattle.listing.specs.Read.{judged as judged_of, reading, row_in, row_fits, fitting};
 ghost use Rattle.listing.specs.Loop.{read_from};
-ghost use Rattle.entry.specs.Sizes.{sizes};
-ghost use Rattle.entry_listing.specs.Answer.{answer};
+ghost use Rattle.board.specs.Model.{sizes};
+ghost use Rattle.board_listing.specs.Answer.{answer};
 
 use crate::live::{live_flags, live_number};
+use board::{Board, Shape};
 use calls::start::start;
-use entry as model;
-use entry_calls as calls;
-use lend::{Link, Slot};
-use listing::read::{Row, ended, held_line, live_line, page_line, refusal, rises};
-use model::sizes::{PAGES, PLACES, SLOTS, SPACES};
-use model::sound::examine;
-use model::{Board, Cache};
+use lend::{Link, Refusal, Slot};
+use listing::read::{Row, ended, held_line, judged, live_line, page_line, rises};
 use text::line::line_end;
 
-// What the reader answers: the number, and the board.
-#[derive(Clone, Copy)]
-pub struct Read {
-    pub number: u32,
-    pub board: Board,
-}
-
-// A refusal, with the start board.
-fn refused(number: u32) -> Read
-    ensures { answer result ≡ refused_of sizes number }
+// The board with these slots, their summary and these live spaces, or what is against it.
+fn board_with<const SPACES: usize, const PAGES: usize, const SLOTS: usize, const PLACES: usize>(
+    shape: Shape<SPACES, PAGES, SLOTS, PLACES>,
+    ordered: bool,
+    slots: &[Slot; SLOTS],
+    live: u32,
+) -> Result<Board<SPACES, PAGES, SLOTS, PLACES>, Refusal>
+    ensures { answer (sizes SPACES PAGES PLACES) result ≡ judged_of (sizes SPACES PAGES PLACES) true ordered (board_with (sizes SPACES PAGES PLACES) slots.now live) }
 {
-    Read {
-        number,
-        board: start(),
+    let mut b = start(shape);
+    b.slots = *slots;
+    b.live = live_flags(shape, live);
+    let pages = b.examine();
+    judged(true, ordered, pages.is_some())?;
+    if let Some(pages) = pages {
+        b.summary = pages.counts;
     }
-}
-
-// The board with these slots, their summary and these live spaces, or the number that is against it.
-fn judged(formed: bool, ordered: bool, slots: [Slot; SLOTS], live: u32) -> Read
-    ensures { answer result ≡ judged_of sizes formed ordered (board_with sizes slots live) }
-{
-    let flags = live_flags(live);
-    let pages = examine(slots, flags);
-    let number = refusal(formed, ordered, pages.fit);
-    if number != 0 {
-        return refused(number);
-    }
-    let counts = pages.counts;
-    Read {
-        number,
-        board: Board {
-            slots,
-            live: flags,
-            cache: Cache {
-                places: [lend::empty_place(); PLACES],
-                next: 0,
-            },
-            summary: counts,
-        },
-    }
+    Ok(b)
 }
 
 // Whether every number of the row is in its field.
-fn row_fits(row: Row) -> bool
-    ensures { result ≡ row_fits sizes row }
+fn row_fits<const SPACES: usize, const PAGES: usize, const SLOTS: usize, const PLACES: usize>(
+    _shape: Shape<SPACES, PAGES, SLOTS, PLACES>,
+    row: Row,
+) -> bool
+    ensures { result ≡ row_fits (sizes SPACES PAGES PLACES) row }
 {
-    (1 <= row.space)
-        & ((row.space as usize) < SPACES)
-        & ((row.page as usize) < PAGES)
-        & ((row.parent as usize) < SPACES)
-        & ((row.at as usize) < PAGES)
-        & (1 <= row.rights)
-        & (row.rights <= 7)
+    1 <= row.space
+        && (row.space as usize) < SPACES
+        && (row.page as usize) < PAGES
+        && (row.parent as usize) < SPACES
+        && (row.at as usize) < PAGES
+        && (1..=7).contains(&row.rights)
 }
 
 // The row of a page's line, where every number is in its field.
-fn row_of(line: &[u8]) -> Option<Row>
-    ensures { result ≡ fitting sizes (row_in line.now) }
+fn row_of<const SPACES: usize, const PAGES: usize, const SLOTS: usize, const PLACES: usize>(
+    shape: Shape<SPACES, PAGES, SLOTS, PLACES>,
+    line: &[u8],
+) -> Option<Row>
+    ensures { result ≡ fitting (sizes SPACES PAGES PLACES) (row_in line.now) }
 {
     let row = page_line(line)?;
-    if row_fits(row) { Some(row) } else { None }
-}
-
-// The page that the row names.
-fn page_of(row: Row) -> usize
-    requires { T (row_fits sizes row) }
-    ensures { result ≡ row_key sizes row }
-{
-    row.space as usize * PAGES + row.page as usize
+    if row_fits(shape, row) {
+        Some(row)
+    } else {
+        None
+    }
 }
 
 // What the page keeps by its row.
-fn slot_of(row: Row) -> Slot
-    requires { T (row_fits sizes row) }
+fn slot_of<const SPACES: usize, const PAGES: usize, const SLOTS: usize, const PLACES: usize>(
+    _shape: Shape<SPACES, PAGES, SLOTS, PLACES>,
+    row: Row,
+) -> Slot
+    requires { T (row_fits (sizes SPACES PAGES PLACES) row) }
     ensures { result ≡ row_slot row }
 {
     Slot {
@@ -101,11 +79,15 @@ fn slot_of(row: Row) -> Slot
 }
 
 // The lines after the first, from a position on: pages, and then how many they are.
-fn read_from(text: &[u8], live: u32, at: usize) -> Read
-    ensures { answer result ≡ read_from sizes text.now live at }
+fn read_from<const SPACES: usize, const PAGES: usize, const SLOTS: usize, const PLACES: usize>(
+    shape: Shape<SPACES, PAGES, SLOTS, PLACES>,
+    text: &[u8],
+    live: u32,
+    at: usize,
+) -> Result<Board<SPACES, PAGES, SLOTS, PLACES>, Refusal>
+    ensures { answer (sizes SPACES PAGES PLACES) result ≡ read_from (sizes SPACES PAGES PLACES) text.now live at }
 {
-    let board = start();
-    let mut slots = board.slots;
+    let mut slots = start(shape).slots;
     let mut rising = true;
     let mut last: usize = 0;
     let mut count: usize = 0;
@@ -113,35 +95,39 @@ fn read_from(text: &[u8], live: u32, at: usize) -> Read
     while from < text.len() {
         let end = line_end(text, from);
         if text.len() <= end + 1 {
-            let Some(held) = held_line(&text[from..end], (SLOTS - PAGES) as u32) else {
-                return refused(17);
-            };
-            return judged(true, rising & (count == held as usize), slots, live);
+            let held = held_line(&text[from..end], (SLOTS - PAGES) as u32).ok_or(
+                Refusal::MalformedListing,
+            )?;
+            return board_with(shape, rising && count == held as usize, &slots, live);
         }
-        let Some(row) = row_of(&text[from..end]) else {
-            return refused(17);
-        };
-        let k = page_of(row);
-        slots[k] = slot_of(row);
+        let row = row_of(shape, &text[from..end]).ok_or(Refusal::MalformedListing)?;
+        let k = shape.key(row.space as u8, row.page as u8);
+        slots[k] = slot_of(shape, row);
         rising = rises(rising, last, k);
         last = k;
         count += 1;
         from = end + 1;
     }
-    refused(17)
+    Err(Refusal::MalformedListing)
 }
 
 // Reads any bytes.
-pub fn read_listing(text: &[u8]) -> Read
-    ensures { answer result ≡ reading sizes text.now }
+pub fn read_listing<
+    const SPACES: usize,
+    const PAGES: usize,
+    const SLOTS: usize,
+    const PLACES: usize,
+>(
+    shape: Shape<SPACES, PAGES, SLOTS, PLACES>,
+    text: &[u8],
+) -> Result<Board<SPACES, PAGES, SLOTS, PLACES>, Refusal>
+    ensures { answer (sizes SPACES PAGES PLACES) result ≡ reading (sizes SPACES PAGES PLACES) text.now }
 {
     if !ended(text) {
-        return refused(17);
+        return Err(Refusal::MalformedListing);
     }
     let end = line_end(text, 0);
-    let most = live_number([true; SPACES]);
-    let Some(live) = live_line(&text[..end], most) else {
-        return refused(17);
-    };
-    read_from(text, live, end + 1)
+    let most = live_number(shape, &[true; SPACES]);
+    let live = live_line(&text[..end], most).ok_or(Refusal::MalformedListing)?;
+    read_from(shape, text, live, end + 1)
 }
