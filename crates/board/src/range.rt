@@ -34,6 +34,7 @@ impl<const SPACES: usize, const PAGES: usize, const SLOTS: usize, const PLACES: 
     }
 
     // Nil, complete, or a part, whose base is rounded down to a multiple of its pages; all else is invalid.
+    #[tactic(auto, unfolding(lend::specs::Ranges::range_of))]
     pub fn range_of(self, base: u32, size: u32) -> Option<Range>
         ensures { range_meant result ≡ range_of (sizes SPACES PAGES PLACES) base size }
     {
