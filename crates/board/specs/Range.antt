@@ -1,5 +1,5 @@
 -- A range of the code as a range of the rules.
-use Rattle.std.specs.Prelude.{ℕ, ◌-◌, ◌%◌, ◌&&◌, cond, leb}
+use Rattle.std.specs.Prelude.{ℕ, ◌&&◌, cond, leb}
 use Rattle.std.specs.declared.option.Option.{Option}
 use Rattle.std.specs.declared.option.Option.TheVariants.{Some, None}
 use Rattle.lend.specs.Sizes.{Sizes}
@@ -9,10 +9,6 @@ use Rattle.board.specs.declared.range.Range.{Range}
 abbrev pub range_meant : Option Range → rules.Range
 range_meant None = rules.Invalid
 range_meant (Some r) = rules.Pages r.first r.count
-
--- a part where it is one
-abbrev pub part_meant : Sizes → ℕ → ℕ → rules.Range
-part_meant z base size = cond (rules.is_part z base size) (rules.Pages (base - base % rules.part_pages size) (rules.part_pages size)) rules.Invalid
 
 -- how many pages a part of this size has, where a part has that size
 abbrev pub part_found : Sizes → ℕ → Option ℕ
