@@ -35,9 +35,13 @@ VIEWS = {
     'listed': ('r exit exit', 'listing_image', 'Listed', 'one_listed'),
     # the memory of a call that has none is the empty list; the image of a call that only reads it is lent for reading
     'left': ('r (entry|exit) (entry|exit|none) exit', *MODEL, 'one_left'),
+    # a number, and the bytes behind the reference that is handed back with it
+    'read_off': ('r( behind)?', 'text', 'Reading', 'one_read_off'),
     # what was lent to a function that hands nothing back
     '≡': ('exit', *MODEL, 'one_bytes'),
 }
+# views that show what stands behind a reference that is handed back
+BEHIND = {'read_off'}
 # structs whose fields are given one by one
 FIELDS = {
     'Lookup': ('r', *MODEL, 'one_lookup'),
@@ -175,13 +179,13 @@ def lent_by(head):
             yield parameter.split(':')[0].split()[-1]
 
 
-def missing(crate, head, lent, what):
+def missing(crate, head, lent, what, views):
     """What comes back and is determined by no clause."""
     if head.result and 'r' not in what:
         given = {w[1:] for w in what if w.startswith('.')}
         yield from (f'the field {f} of its result' for f in fields(crate, head.result) if f not in given) if given else ['its result']
     yield from (f'what it leaves in {p}' for p in lent if p not in what)
-    if '&' in head.result:
+    if '&' in head.result and not views <= BEHIND:
         yield 'what it hands back by reference'
 
 
@@ -194,7 +198,8 @@ def judged(crate, head):
     if None in found:
         return [], ['has a contract of a form that is not known']
     what = set().union(*(w for w, _, _ in found))
-    return found, [f'does not determine {m}' for m in missing(crate, head, lent, what)]
+    views = {view for _, _, view in found}
+    return found, [f'does not determine {m}' for m in missing(crate, head, lent, what, views)]
 
 
 def rows():
