@@ -205,6 +205,24 @@ F
 refused contracts.py "board::shape::u32::from has no contract"
 
 with board/src/shape.rt <<'F'
+pub fn hollow(bytes: &mut [u8]) -> u8
+    ensures { result ≡ less_of 1 bytes.entry }
+{
+    0
+}
+F
+refused contracts.py "board::shape::hollow does not determine what it leaves in bytes"
+
+with board/src/shape.rt <<'F'
+pub fn hollow(bytes: &[u8]) -> Option<&[u8]>
+    ensures { range_meant result ≡ less_of 1 bytes.now }
+{
+    None
+}
+F
+refused contracts.py "board::shape::hollow does not determine what it hands back by reference"
+
+with board/src/shape.rt <<'F'
 struct Reading<'a> {
     bytes: &'a mut [u8],
 }
