@@ -31,9 +31,9 @@ loop-i-preserved g c =
       | else-k w ↦ rw w.self-is record {
         rest = inv.rest;
         places = dropping_no _ _ inv.places (page ∙ elim w.else-k.branch [
-            | else-k-via-then-k+else-not-within v ↦ ap not (sym v.within.ensures ∙ v.if-not-within.false)
-            | else-k-via-else-k v ↦ lost_past c.args.before.now c.args.after.now c.key-k.result (omega (arith, c.told-before, v.if-k.false))
-          ]);
+          | else-k-via-then-k+else-not-within v ↦ ap not (sym v.within.ensures ∙ v.if-not-within.false)
+          | else-k-via-else-k v ↦ lost_past c.args.before.now c.args.after.now c.key-k.result (omega (arith, c.told-before, v.if-k.false))
+        ]);
       }
     ]
 
