@@ -1,5 +1,5 @@
 -- What the test of the whole board finds, once its pages are examined: the places, the next place and the summary are left to ask.
-use mathlib.Core.Path.{◌≡◌, refl, sym, subst, ap, ◌∙◌}
+use mathlib.Core.Path.{◌≡◌, sym, subst, ap, ◌∙◌}
 use mathlib.Core.Bool.{Bool, true, false, ◌&&◌, cond}
 use mathlib.Core.List.{List, [], ◌∷◌}
 use Prim.Native.Nat.{ℕ, zero, suc, ◌≤◌, ◌<◌}
@@ -48,9 +48,9 @@ module _ (eq : Count → Count → Bool) where
   pub same_pairs : (z : Sizes) (s t : List Count) → ((a b : Count) → eq a b ≡ same_count a b) → length s ≡ z.pages → length t ≡ z.pages → pointwise eq s t ≡ same_counts z s t
   same_pairs z s t e ls lt = same_test (pointwise eq s t) (same_counts z s t)
       (λ h. and_i (eqb (length s) z.pages) (every z.pages same) (true_is _ (eq-eqb (length s) z.pages ls)) (every_of z.pages same (λ k l.
-          subst T (e (count_at s k) (count_at t k)) (pairs s t h k (omega (arith, ls))))))
+      subst T (e (count_at s k) (count_at t k)) (pairs s t h k (omega (arith, ls))))))
       (λ h. all_pairs s t (ls ∙ sym lt) (λ k l.
-          subst T (sym (e (count_at s k) (count_at t k))) (each z.pages same (and_r (eqb (length s) z.pages) (every z.pages same) h) k (omega (arith, ls)))))
+      subst T (sym (e (count_at s k) (count_at t k))) (each z.pages same (and_r (eqb (length s) z.pages) (every z.pages same) h) k (omega (arith, ls)))))
     where
       same : ℕ → Bool
       same k = same_count (count_at s k) (count_at t k)

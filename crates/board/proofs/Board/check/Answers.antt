@@ -1,6 +1,5 @@
 -- `check` meets its contract: the pages first, and then what the cache and the summary are held against.
 use mathlib.Core.Path.{◌≡◌, sym, ◌∙◌}
-use mathlib.Core.Bool.{Bool, ◌&&◌}
 use native.Mathlib.Omega.{arith}
 use borrow.Author.Rules.{rules}
 use lib.Dec.{eqb}

@@ -2,7 +2,6 @@
 use mathlib.Core.Path.{◌≡◌, refl, ap, ◌∙◌}
 use mathlib.Core.Bool.{Bool, true, false, cond}
 use Rattle.std.specs.Result.{is_ok}
-use Rattle.std.specs.declared.result.Result.{Result}
 use Rattle.std.specs.declared.result.Result.TheVariants.{Ok, Err}
 use Rattle.lend_sound.proofs.SoundTest.{tells}
 use Rattle.board.specs.Model.{sizes}
