@@ -52,6 +52,9 @@ RECORDS = {
     'Ran': ('exit r', 'script', 'Runs', 'ran_once'),
     'RanFrom': ('exit r', 'script', 'Runs', 'from_once'),
 }
+# structs that hold a buffer which was lent to the function that makes them: `x.entry` is that buffer, as it was lent, and what is left in
+# it in the end is what the struct's own functions make of it
+HOLDERS = {'Writer'}
 ITSELF, BYTES = 'the equation itself', '≡'
 # the words of a clause
 RESULT, WHEN = 'result', {'now': 'entry', 'old': 'entry', 'new': 'exit'}
@@ -90,9 +93,22 @@ def shown(found, form):
 
 def plain(term, lent):
     """Whether a definition speaks of the arguments alone: a term with no relation in it, no result, nothing at exit."""
-    rest = re.sub(r'«?\b\w+»?\.(now|old)\b', '', term)
+    rest = re.sub(r'«?\b\w+»?\.(now|old|entry)\b', '', term)
     words = re.findall(r'\w+', rest)
     return re.fullmatch(r"[\w\s()«»\[\].+*∷'-]*", rest) and not {RESULT, 'new', *lent} & set(words)
+
+
+def named(kind_of):
+    """The struct that a type names, without what it borrows."""
+    return re.sub(r"^&\s*(?:'\w+\s+)?mut\s+|<.*", '', kind_of.strip())
+
+
+def held_by(head):
+    """The parameters that are such a struct, lent for writing: a contract speaks of the whole struct."""
+    for parameter in parts(head.parameters, ','):
+        name, _, kind_of = parameter.partition(':')
+        if named(kind_of) in HOLDERS or (name.split()[-1:] == ['self'] and head.of in HOLDERS):
+            yield name.split()[-1]
 
 
 def equation(head, left):
@@ -105,7 +121,8 @@ def equation(head, left):
     field = re.fullmatch(rf'{RESULT}(\.\w+)', ' '.join(left))
     if field and head.result in FIELDS:
         return {field[1]}, head.result
-    return ({found[0][1]} if len(left) == 1 and found[0][0] == 'exit' else None), BYTES
+    what = {found[0][1]} if len(left) == 1 and found[0][0] == 'exit' else None
+    return what, ITSELF if what and what <= set(held_by(head)) else BYTES
 
 
 def determined(head, clause, lent):
@@ -115,6 +132,8 @@ def determined(head, clause, lent):
         at = fact.index('≡')
         what, view = equation(head, fact[:at])
         definition = ' '.join(fact[at + 1:])
+        if what == {'r'} and named(head.result) in HOLDERS:
+            what = what | set(re.findall(r'(\w+)\.entry\b', definition))
     elif fact[0] in RECORDS:
         view = fact[0]
         own = len(fact) - len(RECORDS[view][0].split())
@@ -202,12 +221,13 @@ def rows():
         if crate in models.CRATES.values():
             continue
         text = open(path).read()
-        if re.search(r'\bstruct \w+\s*<', text):
+        if set(re.findall(r'\bstruct (\w+)\s*<', text)) - HOLDERS:
             errors.append(f'{path}: a struct that may hold a reference, for which no view is known')
         for head in heads.heads(text):
             if not head.public:
                 continue
-            name = f'{crate}::{module}::{head.name}' if module not in ('lib', 'main') else f'{crate}::{head.name}'
+            within = '' if module in ('lib', 'main') else f'{module}::'
+            name = f'{crate}::{within}{head.of}::{head.name}' if head.of else f'{crate}::{within}{head.name}'
             found, wrong = judged(crate, head)
             for _, definition, view in found:
                 said, astray = theorem(view, text)

@@ -7,10 +7,12 @@ import re
 from collections import namedtuple
 
 # clauses: the word and what stands in the braces of each, on one line
-Head = namedtuple('Head', 'line name public parameters result clauses')
+# of: the struct whose function it is, where it stands in an `impl`
+Head = namedtuple('Head', 'line name of public parameters result clauses')
 # a function's first words, wherever on a line they stand: pub, pub(crate), extern "C" and whatever else comes before `fn`
 FIRST = re.compile(r'(?<![\w#])((?:[a-z]+(?:\([^)]*\))?(?:\s+"\w+")?\s+)*)fn\s+(\w+)')
 ARROW = re.compile(r'(?s)\s*->\s*(.*?)\s*(?=\b(?:requires|ensures|ghost)\b|\{)')
+IMPL = re.compile(r'(?m)^impl\b[^{;]*?(\w+)(?:<[^{]*?>)?\s*\{')
 CLOSING = {'(': ')', '{': '}', '[': ']', '<': '>'}
 
 
@@ -56,6 +58,7 @@ def clauses(text, at):
 def heads(text):
     """Every function's head. One is public where a caller outside the crate, or a linker, finds it."""
     text = bare(text)
+    blocks = [(m[1], m.end(), closed(text, m.end() - 1)) for m in IMPL.finditer(text)]
     for m in FIRST.finditer(text):
         start = m.end()
         if text[start] == '<':
@@ -63,5 +66,6 @@ def heads(text):
         end = closed(text, start)
         arrow = ARROW.match(text, end)
         words = m[1].split()
-        yield Head(text.count('\n', 0, m.start()) + 1, m[2], 'pub' in words or 'extern' in words, one_line(text[start + 1:end - 1]),
+        of = next((name for name, begin, finish in blocks if begin <= m.start() < finish), '')
+        yield Head(text.count('\n', 0, m.start()) + 1, m[2], of, 'pub' in words or 'extern' in words, one_line(text[start + 1:end - 1]),
                    one_line(arrow[1]) if arrow else '', clauses(text, arrow.end() if arrow else end))
