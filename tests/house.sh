@@ -247,6 +247,23 @@ copy
 sed -i 's/outcome result (tables b.new)/outcome result (tables b.old)/' "$work/text/crates/calls/src/create.rt"
 refused contracts.py "calls::create::create has a contract of a form that is not known"
 
+# ---- contracts.py: a struct that holds what was lent
+with text/src/write.rt <<'F'
+pub fn hollow<'a>(buffer: &'a mut [u8], other: &mut [u8]) -> Writer<'a>
+    ensures { result ≡ starting buffer.entry }
+{
+    Writer::new(buffer)
+}
+F
+refused contracts.py "text::write::hollow does not determine what it leaves in other"
+
+with text/src/write.rt <<'F'
+pub struct Other<'a> {
+    bytes: &'a mut [u8],
+}
+F
+refused contracts.py "write.rt: a struct that may hold a reference, for which no view is known"
+
 # ---- contracts.py: the theorem of a view
 copy
 sed -i 's/\bone_answer\b/one_reply/' "$work/text/crates/code_demands/proofs/Unique.antt"
