@@ -65,6 +65,19 @@ with lend_entry/src/board.rt <<'F'
 F
 refused rules.py "board.rt:2: a public function with a requires"
 
+with board/src/shape.rt <<'F'
+impl<const PAGES: usize> Row<PAGES> {
+    pub fn hollow<const WIDE: usize>(&mut self, x: u8) -> u8
+        requires small { x < 3 }
+        ensures { result ≡ less_of x x }
+    {
+        x
+    }
+}
+F
+refused rules.py "shape.rt:3: a public function with a requires"
+refused contracts.py "board::shape::Row::hollow does not determine what it leaves in self"
+
 with text/src/number.rt <<'F'
 pub(crate) fn inner(x: u8) -> u8
     requires small { x < 3 }
@@ -73,6 +86,11 @@ pub(crate) fn inner(x: u8) -> u8
 }
 F
 taken
+
+# ---- rules.py: long functions
+copy
+sed -i "s/^    b.live\[s\] = true;/&$(printf '\\n%.0s' {1..30})/" "$work/text/crates/calls/src/create.rt"
+refused rules.py ": a function of "
 
 # ---- rules.py: sizes
 with text/src/number.rt <<'F'
@@ -86,9 +104,14 @@ room = 1024
 F
 refused rules.py "Inner.antt:3: a size as a bare number"
 
+with board/src/shape.rt <<'F'
+pub const ALMOST: Shape<8, 32, 256, 16> = Shape {};
+F
+refused rules.py "shape.rt:2: a size as a bare number"
+
 # ---- rules.py: wrong programs
 copy
-rm "$work/text/crates/entry/controls/every_call_refused.control"
+rm "$work/text/crates/board/controls/every_call_refused.control"
 refused rules.py "every_call_refused.edit:1: an edit with neither a control nor a reason why there is none"
 
 copy
@@ -96,41 +119,41 @@ sed -i 's/every_call_refused/no_call_done/' "$work/text/docs/PROOF.md"
 refused rules.py "every_call_refused.edit:1: an edit that docs/PROOF.md does not name"
 
 # ---- contracts.py: what a clause may say
-with entry/src/sets.rt <<'F'
+with board/src/shape.rt <<'F'
 pub fn hollow(x: u8) -> u8 {
     x
 }
 F
-refused contracts.py "entry::sets::hollow has no contract"
+refused contracts.py "board::shape::hollow has no contract"
 
-with entry/src/sets.rt <<'F'
+with board/src/shape.rt <<'F'
 pub fn hollow(x: u8) -> u8
     ensures { result ≡ result }
 {
     x
 }
 F
-refused contracts.py "entry::sets::hollow has a contract of a form that is not known"
+refused contracts.py "board::shape::hollow has a contract of a form that is not known"
 
-with entry/src/sets.rt <<'F'
+with board/src/shape.rt <<'F'
 pub fn hollow(x: u8) -> u8
     ensures { result ≡ x ⊎ Any result }
 {
     x
 }
 F
-refused contracts.py "entry::sets::hollow has a contract of a form that is not known"
+refused contracts.py "board::shape::hollow has a contract of a form that is not known"
 
-with entry/src/sets.rt <<'F'
+with board/src/shape.rt <<'F'
 pub fn hollow(buffer: &mut [u8])
     ensures { buffer.new ≡ buffer.new }
 {
 }
 F
-refused contracts.py "entry::sets::hollow has a contract of a form that is not known"
+refused contracts.py "board::shape::hollow has a contract of a form that is not known"
 
 # ---- contracts.py: what has to be determined
-with entry/src/sets.rt <<'F'
+with board/src/shape.rt <<'F'
 pub fn hollow(buffer: &mut [u8], out: &mut [u32; 4], x: u8) -> u8
     ensures { result ≡ less_of x x }
     ensures { out.new ≡ four_of x x }
@@ -138,18 +161,18 @@ pub fn hollow(buffer: &mut [u8], out: &mut [u32; 4], x: u8) -> u8
     x
 }
 F
-refused contracts.py "entry::sets::hollow does not determine what it leaves in buffer"
+refused contracts.py "board::shape::hollow does not determine what it leaves in buffer"
 
-with entry/src/sets.rt <<'F'
+with board/src/shape.rt <<'F'
 pub fn hollow(buffer: &mut [u8]) -> u8
     ensures { buffer.new ≡ buffer.old }
 {
     0
 }
 F
-refused contracts.py "entry::sets::hollow does not determine its result"
+refused contracts.py "board::shape::hollow does not determine its result"
 
-with entry/src/sets.rt <<'F'
+with board/src/shape.rt <<'F'
 pub fn whole(buffer: &mut [u8], x: u8) -> u8
     ensures { result ≡ less_of x x }
     ensures { buffer.new ≡ buffer.old }
@@ -159,30 +182,77 @@ pub fn whole(buffer: &mut [u8], x: u8) -> u8
 F
 taken
 
+with board/src/shape.rt <<'F'
+impl<const PAGES: usize> Row<PAGES> {
+    pub fn hollow(&mut self, x: u8) -> u8
+        ensures { result ≡ less_of x self.old.live }
+    {
+        x
+    }
+}
+F
+refused contracts.py "board::shape::Row::hollow does not determine what it leaves in self"
+
+with board/src/shape.rt <<'F'
+impl From<Row> for u32 {
+    ghost from_gives = { λ r n. n ≡ n };
+
+    fn from(row: Row) -> u32 {
+        0
+    }
+}
+F
+refused contracts.py "board::shape::u32::from has no contract"
+
+with board/src/shape.rt <<'F'
+struct Reading<'a> {
+    bytes: &'a mut [u8],
+}
+
+pub fn hollow(reading: Reading<'_>) -> u8
+    ensures { result ≡ less_of 1 1 }
+{
+    0
+}
+F
+refused contracts.py "board::shape::hollow does not determine what it leaves in reading"
+
 copy
-sed -i 's/^    pub frame: u8,/&\n    pub steps: u8,/' "$work/text/crates/entry/src/lines.rt"
-refused contracts.py "entry::lookup::lookup does not determine the field steps of its result"
+sed -i 's/^    pub frame: u8,/&\n    pub steps: u8,/' "$work/text/crates/board/src/lines.rt"
+refused contracts.py "board::lines::Board::lookup does not determine the field steps of its result"
+
+copy
+sed -i '/^    ensures first_checks /d' "$work/text/crates/calls/src/flush_range.rt"
+refused contracts.py "calls::flush_range::flush_range does not determine its result"
+
+copy
+sed -i 's/outcome result (tables b.new)/outcome result (tables b.old)/' "$work/text/crates/calls/src/create.rt"
+refused contracts.py "calls::create::create has a contract of a form that is not known"
 
 # ---- contracts.py: the theorem of a view
 copy
-sed -i 's/\bone_answer\b/one_reply/' "$work/text/crates/entry_demands/proofs/Unique.antt"
-refused contracts.py "wants a theorem one_answer in entry_demands, Unique: one result by outcome"
+sed -i 's/\bone_answer\b/one_reply/' "$work/text/crates/code_demands/proofs/Unique.antt"
+refused contracts.py "wants a theorem one_answer in code_demands, Unique: one result by outcome"
 
 copy
-sed -i '/^pub one_look :/s/seen //g' "$work/text/crates/entry_demands/proofs/Unique.antt"
-refused contracts.py "wants a theorem one_look in entry_demands, Unique: one result by seen"
+sed -i '/^pub one_load :/s/loaded //g' "$work/text/crates/code_demands/proofs/Unique.antt"
+refused contracts.py "wants a theorem one_load in code_demands, Unique: one result by loaded"
 
 copy
-sed -i '/^pub one_store :/s/ × (m ≡ n)$//' "$work/text/crates/entry_demands/proofs/Unique.antt"
-refused contracts.py "wants a theorem one_store in entry_demands, Unique: one result by stored"
+sed -i '/^pub one_store :/,/^one_store /s/ × (m ≡ n)$//' "$work/text/crates/code_demands/proofs/Unique.antt"
+refused contracts.py "wants a theorem one_store in code_demands, Unique: one result by stored"
 
 copy
-sed -i 's/\.{tables}/.{nothing as tables}/' "$work/text/crates/entry_calls/src/start.rt"
-refused contracts.py "entry_calls::start::start has another tables than the theorem one_board"
+sed -i 's/\.{tables}/.{nothing as tables}/' "$work/text/crates/calls/src/start.rt"
+refused contracts.py "calls::start::start has another tables than the theorem one_board"
+
+copy
+sed -i 's/\.{tables}/.{nothing as tables}/' "$work/text/crates/calls/src/create.rt"
+refused contracts.py "calls::create::create has another tables than the theorem one_board"
 
 # ---- contracts.py: the page
 copy
-sed -i '/entry_calls::flush::flush/d' "$work/text/docs/CONTRACTS.md"
+sed -i '/calls::flush::flush/d' "$work/text/docs/CONTRACTS.md"
 refused contracts.py "docs/CONTRACTS.md is not what tools/contracts.py makes" --check
 
 # ---- ./test: a step that tried nothing

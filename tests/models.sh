@@ -23,21 +23,29 @@ refused() {
 copy
 "$work/text/tools/models.py" --check
 
-sed -i '0,/==/s//!=/' "$work/text/crates/premium/src/range.rt"
-refused "a premium rule of its own"
+sed -i '0,/sizes (Create/s//sizes (Delete/' "$work/text/crates/lend_premium/src/spaces.rt"
+refused "a premium contract of its own"
 
 copy
-sed -i 's/SPACES: usize = 16/SPACES: usize = 15/' "$work/text/crates/premium/src/sizes.rt"
-refused "another size"
+sed -i 's/ROOM: usize = 1500000/ROOM: usize = 1500001/' "$work/text/crates/board_script_premium/src/main.rt"
+refused "another length"
 
 copy
-rm "$work/text/crates/premium_calls/src/flush.rt"
+rm "$work/text/crates/lend_premium/src/withdraw.rt"
 refused "a premium file that is missing"
 
 copy
-echo '// more' >"$work/text/crates/premium_calls/src/more.rt"
+echo '// more' >"$work/text/crates/lend_premium/src/more.rt"
 refused "a premium file that no entry file stands behind"
 
 copy
 sed -i 's/lend_premium_load(uint8_t \*image/lend_premium_load(const uint8_t *image/' "$work/text/include/lend.h"
 refused "a premium declaration of its own"
+
+copy
+sed -i 's/^#define LEND_PREMIUM_PAGES .*/#define LEND_PREMIUM_PAGES 32/' "$work/text/include/lend.h"
+refused "another size"
+
+copy
+sed -i '/^lend_premium /s/ access / /' "$work/text/crates.txt"
+refused "a premium crate with crates of its own"

@@ -19,44 +19,50 @@ import heads
 import models
 
 # in a view: r is the result, exit what a parameter lent for writing holds when the call ends (`x.new`), entry what one held when it began
-# (`x.old`, and `x.now` of one lent for reading)
-MODEL = 'entry_demands', 'Unique'
+# (`x.old`, and `x.now` of one lent for reading); a board is there as its tables, and sizes are the model's
+MODEL = 'code_demands', 'Unique'
+LISTED = 'board_listing', 'Unique'
 VIEWS = {
-    'tables': ('r', *MODEL, 'one_board'),
-    'outcome': ('r', *MODEL, 'one_answer'),
-    'range_outcome': ('r', *MODEL, 'one_range_answer'),
+    'tables': ('r|exit', *MODEL, 'one_board'),
+    'outcome': ('r exit', *MODEL, 'one_answer'),
+    'range_outcome': ('sizes r exit', *MODEL, 'one_range_answer'),
     'range_meant': ('r', *MODEL, 'one_range'),
-    'translated': ('r', *MODEL, 'one_translation'),
-    'seen': ('r', *MODEL, 'one_look'),
-    'loaded': ('r entry', *MODEL, 'one_load'),
-    'stored': ('r exit', *MODEL, 'one_store'),
-    'answer': ('r', 'entry_listing', 'Unique', 'one_read'),
-    'filled': ('r exit', 'entry_listing', 'Unique', 'one_written'),
+    'translated': ('r exit', *MODEL, 'one_translation'),
+    'loaded': ('r exit entry', *MODEL, 'one_load'),
+    'stored': ('r exit exit', *MODEL, 'one_store'),
+    'answer_of': ('r', *MODEL, 'one_check'),
+    'answer': ('r', *LISTED, 'one_read'),
+    'filled': ('r exit', *LISTED, 'one_written'),
     'listed': ('r exit exit', 'listing_image', 'Listed', 'one_listed'),
     # the memory of a call that has none is the empty list; the image of a call that only reads it is lent for reading
     'left': ('r (entry|exit) (entry|exit|none) exit', *MODEL, 'one_left'),
-    # what was lent to a function that hands nothing back
-    '≡': ('exit', *MODEL, 'one_bytes'),
+    # what was lent to a function, as it is
+    '≡': ('exit', *MODEL, 'one_value'),
 }
+# a view that determines a result only beside another one, whose theorem takes both; of a result with no value in it, alone
+BESIDE = {'answer_of': 'range_outcome'}
+NO_VALUE = 'Result<(), Refusal>'
 # structs whose fields are given one by one
 FIELDS = {
     'Lookup': ('r', *MODEL, 'one_lookup'),
-    'Tallied': ('r', *MODEL, 'one_tally'),
-    'Pages': ('r', *MODEL, 'one_examined'),
-    'Checked': ('r', *MODEL, 'one_checked'),
 }
 # contracts that are records: what their last arguments are; those before them are the definition's
 RECORDS = {
     'Tells': ('r', *MODEL, 'one_told'),
-    'Wrote': ('exit r', 'text', 'Writing', 'wrote_once'),
     'Ran': ('exit r', 'script', 'Runs', 'ran_once'),
     'RanFrom': ('exit r', 'script', 'Runs', 'from_once'),
 }
-ITSELF, BYTES = 'the equation itself', '≡'
-# the words of a clause
+ITSELF, EXIT, BOARD = 'the equation itself', '≡', 'tables'
+# the words of a clause; a reference that the result takes along is spoken of as it came in
 RESULT, WHEN = 'result', {'now': 'entry', 'old': 'entry', 'new': 'exit'}
+TAKEN = r'(\w+)\.entry\b'
+# the sizes of a model, and how the page says them
+SIZES = '(sizes SPACES PAGES PLACES)'
+PARTS = {RESULT: 'r', SIZES: 'sizes', '[]': 'none'}
 # where the equation that a contract is said by comes from
 EQUATION = 'Rattle.std.specs.Prelude'
+# traits whose functions are determined by what is given to a ghost of theirs
+LAWS = {'From': 'from_gives'}
 
 errors = []
 
@@ -74,10 +80,10 @@ def parts(text, between=' '):
 
 
 def kind(part):
-    """What a part is in a view (r, entry, exit, none, or ? for anything else), and the parameter that it speaks of."""
-    if part in (RESULT, '[]'):
-        return ('r' if part == RESULT else 'none'), None
-    m = re.fullmatch(r'«?(\w+)»?\.(now|old|new)', part)
+    """What a part is in a view (r, entry, exit, sizes, none, or ? for anything else), and the parameter that it speaks of."""
+    if part in PARTS:
+        return PARTS[part], None
+    m = re.fullmatch(r'«?(\w+)»?\.(now|old|new)', part) or re.fullmatch(rf'\({BOARD} (\w+)\.(now|old|new)\)', part)
     return (WHEN[m[2]], m[1]) if m else ('?', None)
 
 
@@ -90,7 +96,7 @@ def shown(found, form):
 
 def plain(term, lent):
     """Whether a definition speaks of the arguments alone: a term with no relation in it, no result, nothing at exit."""
-    rest = re.sub(r'«?\b\w+»?\.(now|old)\b', '', term)
+    rest = re.sub(r'«?\b\w+»?\.(now|old|entry)\b', '', term)
     words = re.findall(r'\w+', rest)
     return re.fullmatch(r"[\w\s()«»\[\].+*∷'-]*", rest) and not {RESULT, 'new', *lent} & set(words)
 
@@ -98,14 +104,17 @@ def plain(term, lent):
 def equation(head, left):
     """What the left side of an equation determines, and its view."""
     found = [kind(part) for part in left]
+    view = left[0]
     if found == [('r', None)]:
         return {'r'}, ITSELF
-    if left[0] in VIEWS:
-        return shown(found[1:], VIEWS[left[0]][0]), left[0]
+    if view in VIEWS:
+        what = shown(found[1:], VIEWS[view][0])
+        partly = view in BESIDE.values() or view in BESIDE and head.result != NO_VALUE
+        return ({f'.{view}' if w == 'r' else w for w in what} if what and partly else what), view
     field = re.fullmatch(rf'{RESULT}(\.\w+)', ' '.join(left))
     if field and head.result in FIELDS:
         return {field[1]}, head.result
-    return ({found[0][1]} if len(left) == 1 and found[0][0] == 'exit' else None), BYTES
+    return ({found[0][1]} if len(left) == 1 and found[0][0] == 'exit' else None), EXIT
 
 
 def determined(head, clause, lent):
@@ -115,6 +124,8 @@ def determined(head, clause, lent):
         at = fact.index('≡')
         what, view = equation(head, fact[:at])
         definition = ' '.join(fact[at + 1:])
+        if view == ITSELF:
+            what = what | set(re.findall(TAKEN, definition))
     elif fact[0] in RECORDS:
         view = fact[0]
         own = len(fact) - len(RECORDS[view][0].split())
@@ -123,6 +134,17 @@ def determined(head, clause, lent):
     else:
         return None
     return (what, definition, view) if what and plain(definition, lent) else None
+
+
+def clauses(head):
+    """The clauses of a head; of a trait's function what is given to the trait's ghost, with the names of the parameters."""
+    trait = re.match(r'\w*', head.trait)[0]
+    for name, law in head.laws:
+        m = re.fullmatch(r'λ ([\w ]+) (\w+)\. (\w+) ≡ (.*)', law)
+        if LAWS.get(trait) == name and m and m[2] == m[3] and m[2] not in re.findall(r'\w+', m[4]):
+            names = dict(zip(m[1].split(), (p.split(':')[0].split()[-1] for p in parts(head.parameters, ',') if p.strip())))
+            return [('ensures', f'{RESULT} ≡ ' + re.sub(r'\w+', lambda w: names.get(w[0], w[0]), m[4]))]
+    return head.clauses
 
 
 def origin(text, name):
@@ -137,23 +159,32 @@ def shows_one(statement, view, form):
     """Whether a theorem goes from the view, or a struct's fields, to an equation for each part of what comes back."""
     *before, after = statement.split(' → ')
     equations = [re.fullmatch(r'\(?(\S+) ≡ (\S+?)\)?', part) for part in after.split(' × ')]
-    return (view in re.findall(r'\w+|≡', ' '.join(before)) and len(equations) == len([k for k in form.split() if k != 'entry'])
+    return (view in re.findall(r'\w+|≡', ' '.join(before)) and len(equations) == len([k for k in form.split() if k not in ('entry', 'sizes')])
             and all(m and m[1] != m[2] for m in equations))
 
 
-def theorem(view, text):
-    """The theorem of a view, as the page names it, and what is wrong: it has to stand there, over the view that the source has."""
+def statement(proofs, name):
+    """What a theorem says: from its name to its first line."""
+    m = re.search(rf'(?m)^ *pub {name} : ((?:.*\n)+?) *(?:unfolding\b|{name}\b)', proofs)
+    return heads.one_line(m[1]) if m else ''
+
+
+def theorem(view, text, other):
+    """The theorem of a view, by its name and where it is, and what is wrong: it has to stand there, over the view that the source has. It
+    is that of the other view where the one determines nothing alone."""
     if origin(text, '◌≡◌') != EQUATION and view not in RECORDS:
-        return '', ['has an equation of its own']
+        return ('', ''), ['has an equation of its own']
     if view == ITSELF:
-        return ITSELF, []
-    form, crate, file, name = (VIEWS | RECORDS | FIELDS)[view]
-    proofs = open(f'crates/{crate}/proofs/{file}.antt').read()
-    m = re.search(rf'(?m)^ *pub {name} : (.*(?:\n .*)*)', proofs)
-    said = f'`{name}` ({crate}, {file})'
-    if not m or not shows_one(heads.one_line(m[1]), view, form):
+        return (ITSELF, ''), []
+    form, crate, file, name = (VIEWS | RECORDS | FIELDS)[other]
+    try:
+        proofs = open(f'crates/{crate}/proofs/{file}.antt').read()
+    except OSError:
+        proofs = ''
+    said = f'`{name}`', f' ({crate}, {file})'
+    if not shows_one(statement(proofs, name), view, form):
         return said, [f'wants a theorem {name} in {crate}, {file}: one result by {view}']
-    if view in FIELDS or view == BYTES or origin(text, view) == origin(proofs, view) is not None:
+    if view in FIELDS or view == EXIT or origin(text, view) == origin(proofs, view) is not None:
         return said, []
     return said, [f'has another {view} than the theorem {name}']
 
@@ -168,51 +199,79 @@ def fields(crate, struct):
     return ['?']
 
 
-def lent_by(head):
-    """The names of the parameters that are lent for writing."""
+def lent_by(head, holders):
+    """The names of the parameters that are lent for writing, those among them that hold what is lent."""
     for parameter in parts(head.parameters, ','):
-        if re.search(r"[&*]\s*(?:'\w+\s+)?mut\b", parameter):
-            yield parameter.split(':')[0].split()[-1]
+        name, _, its = parameter.partition(':')
+        its = its or f'{name} {head.owner}'
+        if re.search(r"[&*]\s*(?:'\w+\s+)?mut\b", parameter) or (holders & set(re.findall(r'\w+', its)) and not its.strip().startswith('&')):
+            yield name.split()[-1]
 
 
-def missing(crate, head, lent, what):
+def missing(crate, head, lent, found, holders):
     """What comes back and is determined by no clause."""
-    if head.result and 'r' not in what:
-        given = {w[1:] for w in what if w.startswith('.')}
+    what = set().union(*(w for w, _, _ in found))
+    given = {w[1:] for w in what if w.startswith('.')}
+    beside = [{one, other} for one, other in BESIDE.items() if given & {one, other}]
+    if beside:
+        yield from ('its result' for both in beside if not both <= given)
+    elif head.result and 'r' not in what:
         yield from (f'the field {f} of its result' for f in fields(crate, head.result) if f not in given) if given else ['its result']
     yield from (f'what it leaves in {p}' for p in lent if p not in what)
-    if '&' in head.result:
+    holds = '&' in head.result or holders & set(re.findall(r'\w+', head.result.replace('Self', head.owner)))
+    if holds and ITSELF not in [view for _, _, view in found]:
         yield 'what it hands back by reference'
 
 
-def judged(crate, head):
+def judged(crate, head, holders):
     """The rows of one public function, and what is wrong with its contract."""
-    lent = list(lent_by(head))
-    found = [determined(head, clause, lent) if word == 'ensures' else None for word, clause in head.clauses if word != 'requires']
+    lent = list(lent_by(head, holders))
+    found = [determined(head, clause, lent) if word == 'ensures' else None for word, clause in clauses(head) if word != 'requires']
     if not found:
         return [], ['has no contract']
     if None in found:
         return [], ['has a contract of a form that is not known']
-    what = set().union(*(w for w, _, _ in found))
-    return found, [f'does not determine {m}' for m in missing(crate, head, lent, what)]
+    return found, [f'does not determine {m}' for m in missing(crate, head, lent, found, holders)]
+
+
+def full_name(crate, module, head):
+    """The crate, the module, the type that a method is of, and the function."""
+    owner = re.match(r'\w*', head.owner)[0]
+    return '::'.join(part for part in (crate, '' if module in ('lib', 'main') else module, owner, head.name) if part)
+
+
+def theorems(what, clause, view, text):
+    """The theorems by which what a clause determines is one, as the page names them: that of its view, and that of a board in it."""
+    other = BESIDE.get(view, view) if f'.{view}' in what else view
+    found = [theorem(view, text, other)]
+    if view != BOARD and re.search(rf'\({BOARD} \w+\.new\)', clause):
+        found.append(theorem(BOARD, text, BOARD))
+    places = dict.fromkeys(place for (_, place), _ in found)
+    return ', '.join(', '.join(name for (name, at), _ in found if at == place) + place for place in places), [wrong for _, all_wrong in found for wrong in all_wrong]
+
+
+def holders(texts):
+    """The types that may hold a reference: those with a parameter that is no number."""
+    for text in texts:
+        for m in re.finditer(r'\b(?:struct|enum)\s+(\w+)\s*<', text):
+            given = text[m.end():heads.closed(text, m.end() - 1) - 1]
+            if not all(p.split()[0] == 'const' for p in parts(given, ',') if p.strip()):
+                yield m[1]
 
 
 def rows():
-    for path, crate, module in heads.files():
-        if crate in models.CRATES.values():
-            continue
-        text = open(path).read()
-        if re.search(r'\bstruct \w+\s*<', text):
-            errors.append(f'{path}: a struct that may hold a reference, for which no view is known')
+    sources = [(path, crate, module, open(path).read()) for path, crate, module in heads.files() if crate not in models.CRATES.values()]
+    holding = set(holders(heads.bare(text) for *_, text in sources))
+    for path, crate, module, text in sources:
         for head in heads.heads(text):
             if not head.public:
                 continue
-            name = f'{crate}::{module}::{head.name}' if module not in ('lib', 'main') else f'{crate}::{head.name}'
-            found, wrong = judged(crate, head)
-            for _, definition, view in found:
-                said, astray = theorem(view, text)
+            name = full_name(crate, module, head)
+            found, wrong = judged(crate, head, holding)
+            for (what, definition, view), (_, clause) in zip(found, [c for c in clauses(head) if c[0] == 'ensures']):
+                said, astray = theorems(what, clause, view, text)
                 wrong += astray
-                yield name, definition, said
+                yield name, definition.replace(SIZES, 'sizes'), said
             errors.extend(f'{path}:{head.line}: {name} {w}' for w in wrong)
 
 
@@ -220,13 +279,14 @@ def page():
     lines = [
         '# What determines each public function',
         '',
-        'Made by `tools/contracts.py`, and checked by `./test`. What comes back from a function is its result, and every byte that it was',
-        'lent for writing. The contract sets it equal to a definition over the arguments: as it is, or in a view. By the theorem of the',
+        'Made by `tools/contracts.py`, and checked by `./test`. What comes back from a function is its result, and every byte and every board',
+        'that it was lent for writing. The contract sets it equal to a definition over the arguments: as it is, or in a view. By the theorem of the',
         'last column two results that meet the contract are one. Where it says \'the equation itself\', the contract is `result ≡` the',
         'definition, and there is nothing to show. No public function has a `requires`, so this holds for every input.',
         '',
-        'The premium crates are the entry crates\' text at the other sizes (`tools/models.py`), so each function of an entry crate here stands',
-        'for the premium crate\'s too, and premium_demands has the theorems of entry_demands.',
+        'In the crates of both models `sizes` are the sizes that the types are made with, so a row there holds of both models, as its theorem',
+        'does. lend_premium is lend_entry in the other model\'s name (`tools/models.py`): each of its functions stands here by the entry',
+        'model\'s.',
         '',
         '| function | definition | the only result by |',
         '|---|---|---|',

@@ -1,52 +1,40 @@
 #!/usr/bin/env python3
-"""models.py [--check | --differences]: the premium model's text, made from the entry model's.
+"""models.py [--check]: the premium model's functions for C and its programs, made from the entry model's.
 
-The language has no generics, so each model has its own arrays and with them its own crates. They are one text: this program copies
-every file of the entry crates, with the model's name and the sizes of SIZES below put in, and so makes the premium crates, their
-lines of crates.txt and the premium part of include/lend.h. Nobody edits what it makes: change the entry text and run it again.
+The board and its calls are one text for both models: their sizes are const parameters. What C and the shell know by a name is there once
+for each: a function for C has one name and no const parameters, and a program has one main. These crates hold no working, and they are one
+text too: this program copies every file of the entry model's with the premium model's name put in, and so makes lend_premium, the two
+premium programs, their lines of crates.txt and the premium part of include/lend.h. Nobody edits what it makes: change the entry text and
+run it again.
 
 --check writes nothing and fails where a file differs from what would be made, is missing, or was not made by it.
---differences prints where the two models' texts differ beyond the name, line by line.
 """
 import contextlib
-import difflib
 import os
 import re
 import subprocess
 import sys
 import tempfile
 
-# what differs between the two models: the numbers of src/sizes.rt and include/lend.h
-SIZES = {'SPACES': 16, 'PAGES': 64, 'SLOTS': 1024, 'PLACES': 16}
+# the premium model's sizes in include/lend.h; in the code they stand once, in crates/board/src/shape.rt
+SIZES = {'SPACES': 16, 'PAGES': 64, 'PLACES': 16}
 CRATES = {
-    'entry': 'premium',
-    'entry_calls': 'premium_calls',
-    'entry_lending': 'premium_lending',
-    'entry_access': 'premium_access',
-    'entry_demands': 'premium_demands',
-    'entry_image': 'premium_image',
     'lend_entry': 'lend_premium',
-    'entry_listing': 'premium_listing',
-    'entry_script': 'premium_script',
     'board_script': 'board_script_premium',
     'board_script_from': 'board_script_from_premium',
 }
 # wrong programs are tried on the entry text, which is both models' text, with their controls; rt makes out/
 LEFT_OUT = ['must-fail', 'controls', 'out']
-MARK = '# The premium model: made by tools/models.py from the lines of the entry crates.\n'
+MARK = '# The premium model: made by tools/models.py from the lines of the entry model.\n'
 # where the entry part of include/lend.h begins, then the premium part, then the end of both
 HEADER = ('/* ---- the entry model -', '/* ---- the premium model: made from the entry part by tools/models.py -', '#ifdef __cplusplus\n}')
 
 
 def renamed(text):
-    """The text with the premium model's name where the entry model is meant; a cache has entries too, and those stay."""
-    text = re.sub(r'\b(lend[_-])entry(?=\b|_)', r'\1premium', text)
-    text = re.sub(r'\bentry(?=_(calls|lending|access|demands|image|listing|script)\b)', 'premium', text)
-    text = re.sub(r'(?<=\bRattle\.)entry(?=\.)', 'premium', text)
-    text = re.sub(r'(?<=\buse )entry(?=[ :;])', 'premium', text)
-    text = re.sub(r'(?<![\w:.])entry(?=::)', 'premium', text)
-    text = re.sub(r'\bboard_script(_from)?\b', r'board_script\1_premium', text)
-    return re.sub(r'\bLEND_ENTRY(?=_)', 'LEND_PREMIUM', text)
+    """The text with the premium model's name where it has the entry model's, as a word or as a part of a name; a field `.entry` stays."""
+    text = re.sub(r'(?<![a-z.])entry(?![a-z])', 'premium', text)
+    text = re.sub(r'(?<![A-Z])ENTRY(?![A-Z])', 'PREMIUM', text)
+    return re.sub(r'\bboard_script(_from)?\b', r'board_script\1_premium', text)
 
 
 def renamed_path(path):
@@ -58,15 +46,6 @@ def renamed_path(path):
 def renamed_line(line):
     """A line of crates.txt: a crate's name, and those of the crates below it."""
     return re.sub(r'\w+', lambda m: CRATES.get(m[0], m[0]), line)
-
-
-def resized(path, text):
-    """The size files with the premium model's numbers."""
-    if path.endswith('/specs/Sizes.antt'):
-        return re.sub(r'\bentry\b', 'premium', text)
-    if path.endswith('/src/sizes.rt'):
-        return re.sub(r'(?m)^pub const (\w+): usize = \d+;', lambda m: f'pub const {m[1]}: usize = {SIZES[m[1]]};' if m[1] in SIZES else m[0], text)
-    return text
 
 
 def said(path, text):
@@ -81,14 +60,9 @@ def files(crate):
         yield from (f'{folder}/{name}' for name in sorted(names))
 
 
-def crate_files(marked):
-    """Every file of the premium crates, by its path; marked, with the line that says where it comes from."""
-    made = {}
-    for crate in CRATES:
-        for path in files(crate):
-            text = resized(path, renamed(open(path).read()))
-            made[renamed_path(path)] = said(path, text) if marked else text
-    return made
+def crate_files():
+    """Every file of the premium crates, by its path."""
+    return {renamed_path(path): said(path, renamed(open(path).read())) for crate in CRATES for path in files(crate)}
 
 
 def listed():
@@ -124,7 +98,7 @@ def formatted(made):
 
 
 def all_made():
-    return formatted({**crate_files(True), 'crates.txt': listed()}) | {'include/lend.h': header()}
+    return formatted({**crate_files(), 'crates.txt': listed()}) | {'include/lend.h': header()}
 
 
 def strangers(made):
@@ -150,24 +124,13 @@ def check(made):
             wrong.append(f'{path}: missing')
         elif open(path).read() != text:
             wrong.append(f'{path}: differs from what tools/models.py makes')
-    print('\n'.join(wrong) if wrong else f'{len(made)} files are the entry model\'s text at the premium sizes')
+    print('\n'.join(wrong) if wrong else f'{len(made)} files are the entry model\'s text in the premium model\'s name')
     return 1 if wrong else 0
-
-
-def differences():
-    """What differs between an entry file and its premium file once both have the same name for their model."""
-    for crate in CRATES:
-        for path in files(crate):
-            text = renamed(open(path).read())
-            for line in difflib.unified_diff(text.splitlines(), resized(path, text).splitlines(), path, renamed_path(path), lineterm='', n=0):
-                print(line)
 
 
 if __name__ == '__main__':
     os.chdir(os.path.dirname(os.path.dirname(os.path.abspath(__file__))))
-    if sys.argv[1:] == ['--differences']:
-        differences()
-    elif sys.argv[1:] == ['--check']:
+    if sys.argv[1:] == ['--check']:
         sys.exit(check(all_made()))
     elif not sys.argv[1:]:
         write(all_made())

@@ -37,7 +37,7 @@ def table(purposes, seconds):
     rows = [row(crate, purposes[crate], *figures(crate, seconds)) for crate in written]
     total = '| {} | {} | {:,} | {:,} | {:,} | {} |\n'.format
     rows.append(total('written, all', '', *added(figures(crate, seconds) for crate in written)))
-    rows.append(total('the premium crates', 'made from the entry crates', *added(figures(crate, seconds) for crate in models.CRATES.values())))
+    rows.append(total('the premium model\'s crates', 'made from the entry model\'s', *added(figures(crate, seconds) for crate in models.CRATES.values())))
     return ''.join(rows)
 
 

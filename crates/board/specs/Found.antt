@@ -1,5 +1,5 @@
 -- What the searches of a board find.
-use Rattle.std.specs.Prelude.{ℕ, Bool, false, true, cond, List}
+use Rattle.std.specs.Prelude.{ℕ, Bool, false, true, cond, List, ltb}
 use Rattle.std.specs.declared.option.Option.{Option}
 use Rattle.std.specs.declared.option.Option.TheVariants.{Some, None}
 use Rattle.lend.specs.declared.Slot.{Slot}
@@ -15,10 +15,9 @@ use Rattle.lend.specs.SoundTest.{pages_test, sound_test}
 use Rattle.lend_code.specs.Inner.{rights_of}
 use Rattle.board.specs.declared.sound.Pages.{Pages}
 
--- a number that was found, and the end where none was
-abbrev pub found_or : ℕ → Option ℕ → ℕ
-found_or end None = end
-found_or end (Some k) = k
+-- the number where it is below the end, and none where it is not
+abbrev pub if_below : ℕ → ℕ → Option ℕ
+if_below end k = cond (ltb k end) (Some k) None
 
 abbrev pub is_found : {A : Type 0} → Option A → Bool
 is_found None = false

@@ -1,9 +1,8 @@
 // Ranges: which pages a base and a size name.
 ghost use Rattle.std.specs.Prelude.{◌≡◌};
 ghost use Rattle.lend.specs.Ranges.{range_of};
-ghost use Rattle.lend_code.specs.Ranges.{part_count};
 ghost use Rattle.board.specs.Model.{sizes};
-ghost use Rattle.board.specs.Range.{range_meant, unless_zero};
+ghost use Rattle.board.specs.Range.{range_meant, part_found, part_meant};
 
 use crate::Shape;
 
@@ -23,20 +22,15 @@ impl<const SPACES: usize, const PAGES: usize, const SLOTS: usize, const PLACES: 
     SLOTS,
     PLACES,
 > {
-    // How many pages a part of the size has, where a part has that size. Two to a power is above the power, so a size whose power is PAGES
-    // or more is none before the shift.
+    // How many pages a part of the size has, where a part has that size: two to a power, which is more than PAGES where it doesn't fit a u32.
     fn part_pages(self, size: u32) -> Option<u32>
-        ensures { result ≡ unless_zero (part_count (sizes SPACES PAGES PLACES) size) }
+        ensures { result ≡ part_found (sizes SPACES PAGES PLACES) size }
     {
-        let power = size.checked_sub(ONE_PAGE)? as usize;
-        if PAGES <= power {
+        let count = 1u32.checked_shl(size.checked_sub(ONE_PAGE)?)?;
+        if PAGES < count as usize {
             return None;
         }
-        let count: usize = 1 << power;
-        if PAGES < count {
-            return None;
-        }
-        Some(count as u32)
+        Some(count)
     }
 
     // Nil, complete, or a part, whose base is rounded down to a multiple of its pages; all else is invalid.
@@ -44,15 +38,19 @@ impl<const SPACES: usize, const PAGES: usize, const SLOTS: usize, const PLACES: 
         ensures { range_meant result ≡ range_of (sizes SPACES PAGES PLACES) base size }
     {
         match (base, size) {
-            (0, 0) => return Some(Range { first: 0, count: 0 }),
-            (0, 1) => {
-                return Some(Range {
-                    first: 0,
-                    count: PAGES as u32,
-                });
-            }
-            _ => {}
+            (0, 0) => Some(Range { first: 0, count: 0 }),
+            (0, 1) => Some(Range {
+                first: 0,
+                count: PAGES as u32,
+            }),
+            _ => self.part(base, size),
         }
+    }
+
+    // A part, whose base is rounded down to a multiple of its pages, where it has so many pages and starts at one of them.
+    fn part(self, base: u32, size: u32) -> Option<Range>
+        ensures { range_meant result ≡ part_meant (sizes SPACES PAGES PLACES) base size }
+    {
         let count = self.part_pages(size)?;
         if PAGES <= base as usize {
             return None;

@@ -4,6 +4,7 @@ ghost use Rattle.lend_code.specs.Inner.{rights_of, left_of, cut_slots, lost_all}
 ghost use Rattle.board.specs.Model.{sizes};
 ghost use Rattle.board.specs.Board.{tables, with_slots};
 
+use crate::summary::gone;
 use crate::{Board, Shape};
 
 // What is left of a page's rights when it loses d, if it does.
@@ -53,9 +54,7 @@ impl<const SPACES: usize, const PAGES: usize, const SLOTS: usize, const PLACES: 
     {
         let mut n = 0;
         for k in 0..SLOTS {
-            if before[k] != 0 && after[k] == 0 {
-                n += 1;
-            }
+            n += u32::from(gone(before[k], after[k]));
         }
         n
     }

@@ -1,13 +1,14 @@
 // The test of soundness. It takes any board: the slots first, then the lines, which may be walked once every slot fits, then
 // the cache and the summary, which are held against the rights, frames and counts that were found.
-ghost use Rattle.std.specs.Prelude.{◌≡◌, ◌&&◌, cond, Some, None, Ok, Err};
+ghost use Rattle.std.specs.Prelude.{◌≡◌, ◌<◌, cond, Some, None, Ok, Err};
 ghost use Rattle.lend.specs.Sizes.{slot_count};
 ghost use Rattle.lend.specs.Lists.{every};
 ghost use Rattle.lend.specs.Slots.{slot_at};
 ghost use Rattle.lend.specs.Tables.{alive};
+ghost use Rattle.lend.specs.Cache.{place_at};
 ghost use Rattle.lend.specs.SoundTest.{slot_test, pages_test, is_empty_place, sound_test, Tells};
 ghost use Rattle.lend.specs.declared.refusal.Refusal.TheVariants.{Unsound};
-ghost use Rattle.lend_code.specs.Inner.{lent_fits, link_fits, place_fits, places_fit};
+ghost use Rattle.lend_code.specs.Inner.{lent_fits, place_fits, place_ok, places_fit};
 ghost use Rattle.board.specs.Model.{sizes};
 ghost use Rattle.board.specs.Board.{tables};
 ghost use Rattle.board.specs.Found.{pages_of};
@@ -37,6 +38,7 @@ impl<const SPACES: usize, const PAGES: usize, const SLOTS: usize, const PLACES: 
     }
 
     // Whether page k, with these rights, may be lent by a page of the space that keeps the slot up.
+    #[tactic(auto, unfolding(lend_code::specs::Inner::lent_fits))]
     fn lent_fits(&self, up: Slot, k: usize, rights: u8, space: u8, page: u8) -> bool
         ensures { result ≡ lent_fits (sizes SPACES PAGES PLACES) self.now.live up k rights space page }
     {
@@ -51,22 +53,25 @@ impl<const SPACES: usize, const PAGES: usize, const SLOTS: usize, const PLACES: 
             && lend::within(rights, up.rights)
     }
 
+    // The slot of page k; past the last page an empty one.
+    fn slot(&self, k: usize) -> Slot
+        ensures { result ≡ slot_at self.now.slots k }
+    {
+        self.slots.get(k).copied().unwrap_or(Slot::EMPTY)
+    }
+
     // Whether page k may keep its slot, its line aside.
+    #[tactic(auto, unfolding(lend::specs::SoundTest::slot_test, lend_code::specs::Inner::lent_fits))]
     fn slot_fits(&self, k: usize) -> bool
         ensures { result ≡ slot_test (sizes SPACES PAGES PLACES) self.now.live (slot_at self.now.slots) k }
     {
-        let slot = if k < SLOTS {
-            self.slots[k]
-        } else {
-            Slot::EMPTY
-        };
-        let rights = slot.rights;
+        let slot = self.slot(k);
         match slot.link {
-            Link::Nothing => PAGES <= k && rights == 0,
-            Link::Frame(frame) => k < PAGES && usize::from(frame) == k && rights == 7,
+            Link::Nothing => PAGES <= k && slot.rights == 0,
+            Link::Frame(frame) => k < PAGES && usize::from(frame) == k && slot.rights == 7,
             Link::Page(space, page) => {
-                let up = self.slots[self.shape.inside(self.shape.key(space, page))];
-                PAGES <= k && self.lent_fits(up, k, rights, space, page)
+                let up = self.slot(self.shape.key(space, page));
+                PAGES <= k && self.lent_fits(up, k, slot.rights, space, page)
             }
         }
     }
@@ -75,10 +80,16 @@ impl<const SPACES: usize, const PAGES: usize, const SLOTS: usize, const PLACES: 
     fn slots_fit(&self) -> bool
         ensures { result ≡ every (slot_count (sizes SPACES PAGES PLACES)) (slot_test (sizes SPACES PAGES PLACES) self.now.live (slot_at self.now.slots)) }
     {
-        (0..SLOTS).all(|k| self.slot_fits(k))
+        for k in 0..SLOTS {
+            if !self.slot_fits(k) {
+                return false;
+            }
+        }
+        true
     }
 
     // Whether the place names a page of these rights and this frame.
+    #[tactic(auto, unfolding(lend_code::specs::Inner::place_fits))]
     fn place_fits(&self, place: Place, rights: u8, frame: u8) -> bool
         ensures { result ≡ place_fits (sizes SPACES PAGES PLACES) rights frame place }
     {
@@ -89,16 +100,24 @@ impl<const SPACES: usize, const PAGES: usize, const SLOTS: usize, const PLACES: 
             && place.rights == rights
     }
 
+    // Whether place i is empty, or is the lowest for its page and has that page's frame and rights.
+    fn place_ok(&self, i: usize, rights: &[u8; SLOTS], frames: &[u8; SLOTS]) -> bool
+        requires { i < PLACES }
+        ensures { result ≡ place_ok (sizes SPACES PAGES PLACES) rights.now frames.now self.now.cache.places i (place_at self.now.cache.places i) }
+    {
+        let place = self.cache.places[i];
+        let at = self.shape.inside(self.shape.key(place.space, place.page));
+        place == Place::EMPTY
+            || (self.place_fits(place, rights[at], frames[at])
+                && self.cache.place_for(place.space, place.page) == Some(i))
+    }
+
     // Whether every place is empty, or is the only one for its page and has that page's frame and rights.
     fn places_fit(&self, rights: &[u8; SLOTS], frames: &[u8; SLOTS]) -> bool
         ensures { result ≡ places_fit (sizes SPACES PAGES PLACES) rights.now frames.now self.now.cache.places }
     {
         for i in 0..PLACES {
-            let place = self.cache.places[i];
-            let at = self.shape.inside(self.shape.key(place.space, place.page));
-            let fits = self.place_fits(place, rights[at], frames[at]);
-            let first = self.cache.place_for(place.space, place.page);
-            if !(place == Place::EMPTY || (fits && first == Some(i))) {
+            if !self.place_ok(i, rights, frames) {
                 return false;
             }
         }
@@ -109,15 +128,15 @@ impl<const SPACES: usize, const PAGES: usize, const SLOTS: usize, const PLACES: 
     pub fn examine(&self) -> Option<Pages<PAGES, SLOTS>>
         ensures { result ≡ cond (pages_test (sizes SPACES PAGES PLACES) self.now.live (slot_at self.now.slots)) (Some (pages_of (sizes SPACES PAGES PLACES) self.now.slots)) None }
     {
-        if !(self.is_live(0) && self.is_live(1) && self.slots_fit()) {
-            return None;
+        if self.is_live(0) && self.is_live(1) && self.slots_fit() {
+            let frames = self.frames()?;
+            return Some(Pages {
+                rights: self.rights(),
+                frames,
+                counts: self.tally(&frames),
+            });
         }
-        let frames = self.frames()?;
-        Some(Pages {
-            rights: self.rights(),
-            frames,
-            counts: self.tally(&frames),
-        })
+        None
     }
 
     // What is found of the pages, where the whole board is sound.

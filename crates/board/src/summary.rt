@@ -40,7 +40,7 @@ fn without(count: Count, lost: Count) -> Count
 }
 
 // Whether there were rights before and are none after.
-fn gone(before: u8, after: u8) -> bool
+pub(crate) fn gone(before: u8, after: u8) -> bool
     ensures { result ≡ (not (nat_eq before 0) && nat_eq after 0) }
 {
     before != 0 && after == 0
@@ -117,6 +117,7 @@ impl<const SPACES: usize, const PAGES: usize, const SLOTS: usize, const PLACES: 
     }
 
     // This frame has one page more, of these rights.
+    #[tactic(auto, unfolding(lend_code::specs::Inner::more_in))]
     pub fn count_more(&mut self, frame: usize, rights: u8)
         ensures { tables self.new ≡ with_summary (tables self.old) (more_in self.old.summary frame rights) }
     {

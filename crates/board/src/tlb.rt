@@ -6,7 +6,7 @@ ghost use Rattle.lend_code.specs.Access.{place_after};
 ghost use Rattle.lend_code.specs.Inner.{lost_in};
 ghost use Rattle.board.specs.Model.{sizes};
 ghost use Rattle.board.specs.Board.{tables, with_places};
-ghost use Rattle.board.specs.Found.{found_or, place_found};
+ghost use Rattle.board.specs.Found.{if_below, place_found};
 
 use crate::{Board, Cache, Shape};
 use lend::Place;
@@ -21,7 +21,7 @@ fn names(place: Place, space: u8, page: u8) -> bool
 impl<const PLACES: usize> Cache<PLACES> {
     // The lowest place that is filled for the page, where one is.
     pub fn place_for(&self, space: u8, page: u8) -> Option<usize>
-        ensures { found_or (length self.now.places) result ≡ place_for space page self.now.places }
+        ensures { result ≡ if_below (length self.now.places) (place_for space page self.now.places) }
     {
         self.places
             .iter()
@@ -30,7 +30,7 @@ impl<const PLACES: usize> Cache<PLACES> {
 
     // The lowest empty place, where one is.
     fn empty_place(&self) -> Option<usize>
-        ensures { found_or (length self.now.places) result ≡ empty_in self.now.places }
+        ensures { result ≡ if_below (length self.now.places) (empty_in self.now.places) }
     {
         self.places.iter().position(|place| !place.is_filled())
     }

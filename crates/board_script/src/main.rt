@@ -5,9 +5,10 @@ ghost use Rattle.std.specs.Prelude.{◌≤◌, ◌≡◌, length, take};
 ghost use Rattle.io.specs.Counts.{IsPrefixLen};
 ghost use Rattle.script.specs.Script.{input_limit, script_output};
 ghost use Rattle.script.specs.Bound.{output_bound};
-ghost use Rattle.entry.specs.Sizes.{sizes};
+ghost use Rattle.lend.specs.Sizes.{entry as sizes};
 
-use entry_script::run::run;
+use board::ENTRY;
+use session::run::run;
 
 // The length of the output's buffer.
 const ROOM: usize = 1500000;
@@ -18,7 +19,7 @@ fn answer(input: &[u8], output: &mut [u8]) -> usize
     ensures prefix_len { IsPrefixLen result output.new }
     ensures output_after { take result output.new ≡ script_output sizes input.now }
 {
-    run(input, output)
+    run(ENTRY, input, output)
 }
 
 // Runs the script and writes its output.

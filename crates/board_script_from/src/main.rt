@@ -7,9 +7,10 @@ ghost use Rattle.io.specs.Counts.{IsPrefixLen};
 ghost use Rattle.script.specs.Script.{input_limit};
 ghost use Rattle.script.specs.From.{from_output};
 ghost use Rattle.script.specs.Bound.{output_bound};
-ghost use Rattle.entry.specs.Sizes.{sizes};
+ghost use Rattle.lend.specs.Sizes.{entry as sizes};
 
-use entry_script::run::run_from;
+use board::ENTRY;
+use session::run::run_from;
 
 // The file descriptor that gives the listing: none that a shell has open by habit.
 const LISTING: i32 = 42;
@@ -23,7 +24,7 @@ fn answer(listing: &[u8], input: &[u8], output: &mut [u8]) -> usize
     ensures prefix_len { IsPrefixLen result output.new }
     ensures output_after { take result output.new ≡ from_output sizes listing.now input.now }
 {
-    run_from(listing, input, output)
+    run_from(ENTRY, listing, input, output)
 }
 
 // Runs the script and writes its output.

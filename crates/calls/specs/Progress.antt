@@ -1,6 +1,6 @@
 -- What a call over a range answers, as an outcome of the rules: the number and the offset of the first refused page, how many pages were done, the
 -- count of pages that it emptied, and the board after it. A refusal of the first checks has every other field 0.
-use Rattle.std.specs.Prelude.{ℕ, ◌+◌}
+use Rattle.std.specs.Prelude.{ℕ, ◌+◌, ◌≡◌, refl}
 use Rattle.std.specs.declared.option.Option.{Option}
 use Rattle.std.specs.declared.option.Option.TheVariants.{Some, None}
 use Rattle.std.specs.declared.result.Result.{Result}
@@ -39,3 +39,8 @@ first_of_two (Some x) i r = Some x
 abbrev pub page_made : Progress → ℕ → Result ℕ Refusal → Progress
 page_made p i (Ok n) = record { done = p.done + 1; refused = p.refused; emptied = p.emptied }
 page_made p i (Err r) = record { done = p.done; refused = first_of_two p.refused i r; emptied = p.emptied }
+
+-- the board with no memory beside it, whatever was answered
+pub range_state : (z : Sizes) (r : Result Progress Refusal) (t : Tables) → alone t ≡ (range_outcome z r t).state
+range_state z (Ok p) t = refl
+range_state z (Err r) t = refl

@@ -1,7 +1,8 @@
 // flush over a range, page by page from the lowest up.
 ghost use Rattle.std.specs.Prelude.{◌≡◌};
 ghost use Rattle.lend.specs.Tables.{alone};
-ghost use Rattle.lend.specs.Ranges.{FlushRange, range_step};
+ghost use Rattle.lend.specs.Ranges.{FlushRange, range_number, range_step};
+ghost use Rattle.lend.specs.Refusals.{answer_of};
 ghost use Rattle.board.specs.Model.{sizes};
 ghost use Rattle.board.specs.Board.{tables};
 ghost use Rattle.calls.specs.Progress.{range_outcome};
@@ -25,7 +26,8 @@ pub fn flush_range<
     size: u32,
     rights: u32,
 ) -> Result<Progress, Refusal>
-    ensures { range_outcome (sizes SPACES PAGES PLACES) result (tables b.new) ≡ range_step (sizes SPACES PAGES PLACES) (alone (tables b.old)) (FlushRange space base size rights) }
+    ensures first_checks { answer_of result ≡ range_number (sizes SPACES PAGES PLACES) (alone (tables b.old)) (FlushRange space base size rights) }
+    ensures outcome { range_outcome (sizes SPACES PAGES PLACES) result (tables b.new) ≡ range_step (sizes SPACES PAGES PLACES) (alone (tables b.old)) (FlushRange space base size rights) }
 {
     let range = check_one(b, space, base, size, rights)?;
     let before = b.rights();

@@ -1,7 +1,8 @@
 // grant over two ranges: the pages are paired by their offset, and the calls made one by one from the lowest up.
 ghost use Rattle.std.specs.Prelude.{◌≡◌};
 ghost use Rattle.lend.specs.Tables.{alone};
-ghost use Rattle.lend.specs.Ranges.{GrantRange, range_step};
+ghost use Rattle.lend.specs.Ranges.{GrantRange, range_number, range_step};
+ghost use Rattle.lend.specs.Refusals.{answer_of};
 ghost use Rattle.board.specs.Model.{sizes};
 ghost use Rattle.board.specs.Board.{tables};
 ghost use Rattle.calls.specs.Progress.{range_outcome};
@@ -28,7 +29,8 @@ pub fn grant_range<
     at_size: u32,
     rights: u32,
 ) -> Result<Progress, Refusal>
-    ensures { range_outcome (sizes SPACES PAGES PLACES) result (tables b.new) ≡ range_step (sizes SPACES PAGES PLACES) (alone (tables b.old)) (GrantRange from base size to at_base at_size rights) }
+    ensures first_checks { answer_of result ≡ range_number (sizes SPACES PAGES PLACES) (alone (tables b.old)) (GrantRange from base size to at_base at_size rights) }
+    ensures outcome { range_outcome (sizes SPACES PAGES PLACES) result (tables b.new) ≡ range_step (sizes SPACES PAGES PLACES) (alone (tables b.old)) (GrantRange from base size to at_base at_size rights) }
 {
     let (given, taken) = check_pair(b, from, (base, size), to, (at_base, at_size), rights)?;
     let before = b.rights();

@@ -5,6 +5,7 @@ pub mod QuickLines
 pub mod Columns
 pub mod Summary
 pub mod Cache
+pub mod Drops
 pub mod SoundCode
 pub mod Withdrawals
 pub mod Sets
@@ -17,3 +18,7 @@ pub mod LendingCalls
 pub mod Access
 pub mod Ranges
 pub mod RangeLoop
+pub mod LineWalks
+pub mod LineFrames
+pub mod AddedTests
+pub mod Cuts

@@ -118,7 +118,7 @@ module _ (z : Sizes) (b : List Slot) (live : List Bool) (long : length b ≡ slo
         go (no h) = rw (get_or-eq_default b empty_slot {n = k} (omega (arith, long)))
 
     -- so by the rights and frames of all pages the summary is counted as by the table
-    counts_are : (rights frames : List ℕ) → rights ≡ rights_of z b → frames ≡ tabulate (slot_count z) (λ k. frame_of z (slot_at b) k)
+    pub counts_are : (rights frames : List ℕ) → rights ≡ rights_of z b → frames ≡ tabulate (slot_count z) (λ k. frame_of z (slot_at b) k)
         → summary_with z rights frames ≡ summary_of z (slot_at b)
     counts_are rights frames r f = summary_by_law z (slot_at b) by_rights rights frames (λ k. rw r (rights_at z b k long)) (all_framed frames f)
 

@@ -2,16 +2,10 @@
 ghost use Rattle.std.specs.Prelude.{◌≡◌, []};
 ghost use Rattle.lend.specs.Calls.{Translate, Load, Store};
 ghost use Rattle.image.specs.Answered.{left, answer_to};
-ghost use Rattle.entry.specs.Sizes.{sizes};
+ghost use Rattle.lend.specs.Sizes.{entry as sizes};
 
-use crate::finish::finish;
-use access::load::load;
-use access::store::store;
-use access::translate::translate;
-use bytes::read::read_image;
-use entry_access as access;
-use entry_image as bytes;
-use lend::pick;
+use board::ENTRY;
+use image_calls::address;
 
 #[unsafe(no_mangle)]
 pub extern "C" fn lend_entry_translate(
@@ -23,18 +17,7 @@ pub extern "C" fn lend_entry_translate(
 ) -> u32
     ensures { left result image.new [] out.new ≡ answer_to sizes (Translate space address rights) image.old [] }
 {
-    let answer = translate(read_image(image), space, address, rights);
-    let board = answer.board;
-    let hit = pick(answer.hit, 1, 0);
-    finish(
-        image,
-        board,
-        answer.number,
-        answer.address,
-        hit,
-        answer.links,
-        out,
-    )
+    address::translate(ENTRY, image, space, address, rights, out)
 }
 
 // The memory is only read.
@@ -48,10 +31,7 @@ pub extern "C" fn lend_entry_load(
 ) -> u32
     ensures { left result image.new memory.now out.new ≡ answer_to sizes (Load space address) image.old memory.now }
 {
-    let answer = load(read_image(image), memory, space, address);
-    let board = answer.board;
-    let byte = answer.byte as u32;
-    finish(image, board, answer.number, byte, 0, 0, out)
+    address::load(ENTRY, image, memory, space, address, out)
 }
 
 #[unsafe(no_mangle)]
@@ -65,7 +45,5 @@ pub extern "C" fn lend_entry_store(
 ) -> u32
     ensures { left result image.new memory.new out.new ≡ answer_to sizes (Store space address value) image.old memory.old }
 {
-    let answer = store(read_image(image), memory, space, address, value);
-    let board = answer.board;
-    finish(image, board, answer.number, 0, 0, 0, out)
+    address::store(ENTRY, image, memory, space, address, value, out)
 }

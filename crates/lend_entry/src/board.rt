@@ -1,27 +1,17 @@
 // The start board, and the test of soundness.
 ghost use Rattle.std.specs.Prelude.{◌≡◌, []};
 ghost use Rattle.image.specs.Answered.{left, start_answer, sound_number};
-ghost use Rattle.entry.specs.Sizes.{sizes};
+ghost use Rattle.lend.specs.Sizes.{entry as sizes};
 
-use bytes::read::read_image;
-use bytes::write::write_image;
-use calls::start::start;
-use entry as model;
-use entry_calls as calls;
-use entry_image as bytes;
-use lend::pick;
-use model::sizes::IMAGE;
-use model::sound::sound;
+use board::ENTRY;
+use image_calls::start;
 
 // The start board is written over any bytes of the right length.
 #[unsafe(no_mangle)]
 pub extern "C" fn lend_entry_start(image: &mut [u8], out: &mut [u32; 4]) -> u32
     ensures { left result image.new [] out.new ≡ start_answer sizes image.old }
 {
-    *out = [0, 0, 0, 0];
-    let number = pick(image.len() == IMAGE, 0, 1);
-    write_image(image, start());
-    number
+    start::start(ENTRY, image, out)
 }
 
 // 1 where the image is a sound board's, else 0.
@@ -29,5 +19,5 @@ pub extern "C" fn lend_entry_start(image: &mut [u8], out: &mut [u32; 4]) -> u32
 pub extern "C" fn lend_entry_sound(image: &[u8]) -> u32
     ensures { result ≡ sound_number sizes image.now }
 {
-    pick(sound(read_image(image)), 1, 0)
+    start::sound(ENTRY, image)
 }

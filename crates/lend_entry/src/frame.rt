@@ -1,13 +1,10 @@
 // The counts of a frame.
 ghost use Rattle.std.specs.Prelude.{◌≡◌, []};
 ghost use Rattle.image.specs.Answered.{left, frame_answer};
-ghost use Rattle.entry.specs.Sizes.{sizes};
+ghost use Rattle.lend.specs.Sizes.{entry as sizes};
 
-use bytes::read::read_image;
-use entry as model;
-use entry_image as bytes;
-use model::sizes::PAGES;
-use model::sound::sound;
+use board::ENTRY;
+use image_calls::frame;
 
 // The image is only read.
 #[unsafe(no_mangle)]
@@ -21,14 +18,5 @@ pub extern "C" fn lend_entry_frame(image: &[u8], frame: u32, out: &mut [u32; 4])
     }
     let i = frame as usize;
     if PAGES <= i {
-        return 5;
-    }
-    let summary = b.summary;
-    let count = summary[i];
-    let held = count.held as u32;
-    let read = count.read as u32;
-    let write = count.write as u32;
-    let execute = count.execute as u32;
-    *out = [held, read, write, execute];
-    0
+    frame::frame(ENTRY, image, frame, out)
 }

@@ -2,14 +2,10 @@
 ghost use Rattle.std.specs.Prelude.{◌≡◌, []};
 ghost use Rattle.lend.specs.Calls.{Map, Grant};
 ghost use Rattle.image.specs.Answered.{left, answer_to};
-ghost use Rattle.entry.specs.Sizes.{sizes};
+ghost use Rattle.lend.specs.Sizes.{entry as sizes};
 
-use crate::finish::finish;
-use bytes::read::read_image;
-use entry_image as bytes;
-use entry_lending as lending;
-use lending::grant::grant;
-use lending::map::map;
+use board::ENTRY;
+use image_calls::lending;
 
 #[unsafe(no_mangle)]
 pub extern "C" fn lend_entry_map(
@@ -23,9 +19,7 @@ pub extern "C" fn lend_entry_map(
 ) -> u32
     ensures { left result image.new [] out.new ≡ answer_to sizes (Map from page to at rights) image.old [] }
 {
-    let answer = map(read_image(image), from, page, to, at, rights);
-    let board = answer.board;
-    finish(image, board, answer.number, answer.emptied, 0, 0, out)
+    lending::map(ENTRY, image, from, page, to, at, rights, out)
 }
 
 #[unsafe(no_mangle)]
@@ -40,7 +34,5 @@ pub extern "C" fn lend_entry_grant(
 ) -> u32
     ensures { left result image.new [] out.new ≡ answer_to sizes (Grant from page to at rights) image.old [] }
 {
-    let answer = grant(read_image(image), from, page, to, at, rights);
-    let board = answer.board;
-    finish(image, board, answer.number, answer.emptied, 0, 0, out)
+    lending::grant(ENTRY, image, from, page, to, at, rights, out)
 }

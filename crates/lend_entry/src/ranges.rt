@@ -2,17 +2,10 @@
 ghost use Rattle.std.specs.Prelude.{◌≡◌, []};
 ghost use Rattle.lend.specs.Ranges.{UnmapRange, FlushRange, MapRange, GrantRange};
 ghost use Rattle.image.specs.Answered.{left, range_answer_to};
-ghost use Rattle.entry.specs.Sizes.{sizes};
+ghost use Rattle.lend.specs.Sizes.{entry as sizes};
 
-use crate::finish::finish_range;
-use bytes::read::read_image;
-use calls::flush_range::flush_range;
-use calls::unmap_range::unmap_range;
-use entry_calls as calls;
-use entry_image as bytes;
-use entry_lending as lending;
-use lending::grant_range::grant_range;
-use lending::map_range::map_range;
+use board::ENTRY;
+use image_calls::ranges;
 
 #[unsafe(no_mangle)]
 pub extern "C" fn lend_entry_unmap_range(
@@ -25,8 +18,7 @@ pub extern "C" fn lend_entry_unmap_range(
 ) -> u32
     ensures { left result image.new [] out.new ≡ range_answer_to sizes (UnmapRange space base size rights) image.old }
 {
-    let answer = unmap_range(read_image(image), space, base, size, rights);
-    finish_range(image, answer, out)
+    ranges::unmap_range(ENTRY, image, space, base, size, rights, out)
 }
 
 #[unsafe(no_mangle)]
@@ -40,8 +32,7 @@ pub extern "C" fn lend_entry_flush_range(
 ) -> u32
     ensures { left result image.new [] out.new ≡ range_answer_to sizes (FlushRange space base size rights) image.old }
 {
-    let answer = flush_range(read_image(image), space, base, size, rights);
-    finish_range(image, answer, out)
+    ranges::flush_range(ENTRY, image, space, base, size, rights, out)
 }
 
 #[unsafe(no_mangle)]
@@ -58,17 +49,7 @@ pub extern "C" fn lend_entry_map_range(
 ) -> u32
     ensures { left result image.new [] out.new ≡ range_answer_to sizes (MapRange from base size to at_base at_size rights) image.old }
 {
-    let answer = map_range(
-        read_image(image),
-        from,
-        base,
-        size,
-        to,
-        at_base,
-        at_size,
-        rights,
-    );
-    finish_range(image, answer, out)
+    ranges::map_range(ENTRY, image, from, base, size, to, at_base, at_size, rights, out)
 }
 
 #[unsafe(no_mangle)]
@@ -85,15 +66,5 @@ pub extern "C" fn lend_entry_grant_range(
 ) -> u32
     ensures { left result image.new [] out.new ≡ range_answer_to sizes (GrantRange from base size to at_base at_size rights) image.old }
 {
-    let answer = grant_range(
-        read_image(image),
-        from,
-        base,
-        size,
-        to,
-        at_base,
-        at_size,
-        rights,
-    );
-    finish_range(image, answer, out)
+    ranges::grant_range(ENTRY, image, from, base, size, to, at_base, at_size, rights, out)
 }

@@ -2,14 +2,10 @@
 ghost use Rattle.std.specs.Prelude.{◌≡◌, []};
 ghost use Rattle.lend.specs.Calls.{Unmap, Flush};
 ghost use Rattle.image.specs.Answered.{left, answer_to};
-ghost use Rattle.entry.specs.Sizes.{sizes};
+ghost use Rattle.lend.specs.Sizes.{entry as sizes};
 
-use crate::finish::finish;
-use bytes::read::read_image;
-use calls::flush::flush;
-use calls::unmap::unmap;
-use entry_calls as calls;
-use entry_image as bytes;
+use board::ENTRY;
+use image_calls::withdraw;
 
 #[unsafe(no_mangle)]
 pub extern "C" fn lend_entry_unmap(
@@ -21,9 +17,7 @@ pub extern "C" fn lend_entry_unmap(
 ) -> u32
     ensures { left result image.new [] out.new ≡ answer_to sizes (Unmap space page rights) image.old [] }
 {
-    let answer = unmap(read_image(image), space, page, rights);
-    let board = answer.board;
-    finish(image, board, answer.number, answer.emptied, 0, 0, out)
+    withdraw::unmap(ENTRY, image, space, page, rights, out)
 }
 
 #[unsafe(no_mangle)]
@@ -36,7 +30,5 @@ pub extern "C" fn lend_entry_flush(
 ) -> u32
     ensures { left result image.new [] out.new ≡ answer_to sizes (Flush space page rights) image.old [] }
 {
-    let answer = flush(read_image(image), space, page, rights);
-    let board = answer.board;
-    finish(image, board, answer.number, answer.emptied, 0, 0, out)
+    withdraw::flush(ENTRY, image, space, page, rights, out)
 }

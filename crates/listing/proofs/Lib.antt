@@ -6,3 +6,4 @@ pub mod Cut
 pub mod Said
 pub mod Loop
 pub mod Judging
+pub mod Ended

@@ -9,15 +9,8 @@ use Rattle.lend.specs.Summary.{summary_of}
 use Rattle.lend.specs.Cache.{empty_place}
 use Rattle.lend.specs.Start.{start_board}
 use Rattle.text.specs.Write.{live_line, page_line, held_line}
+use Rattle.listing.specs.declared.read.Row.{Row}
 use Rattle.listing.specs.Live.{live_flags, all_live}
-
--- a page line: a page, its parent, its rights
-pub record Row : Type 0 where
-  pub space : ℕ
-  pub page : ℕ
-  pub parent : ℕ
-  pub at : ℕ
-  pub rights : ℕ
 
 -- what a whole listing says
 pub record Content : Type 0 where

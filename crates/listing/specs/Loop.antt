@@ -1,7 +1,6 @@
 -- What a loop over the lines after the first comes to, for what it holds so far: whether the rows rose, the last of them, how many
 -- they were, and the slots with theirs put in.
-use Rattle.std.specs.Prelude.{ℕ, ◌+◌, Bool, true, ◌&&◌, List, length, drop, eqb, ltb}
-use Rattle.std.proofs.Math.Option.{Option, none, some}
+use Rattle.std.specs.Prelude.{ℕ, ◌+◌, Bool, true, ◌&&◌, List, length, drop, eqb, ltb, Option, Some, None}
 use Rattle.lend.specs.declared.Slot.{Slot}
 use Rattle.lend.specs.Sizes.{Sizes}
 use Rattle.lend.specs.Start.{start_board}
@@ -15,8 +14,8 @@ rises_to rising last next = rising && ltb last next
 
 -- what is left of the lines settles the answer
 abbrev pub finish : Sizes → ℕ → Bool → ℕ → ℕ → List Slot → Option Rest → Answer
-finish z live rising last n slots none = refused z 17
-finish z live rising last n slots (some t) =
+finish z live rising last n slots None = refused z 17
+finish z live rising last n slots (Some t) =
     judged z true (rising && rising_above z last t.rows && eqb (n + length t.rows) t.held)
     (board_with z (placed z slots t.rows) live)
 

@@ -3,29 +3,22 @@
 #![tactic(auto)]
 
 ghost use Rattle.std.specs.Prelude.{◌≡◌};
-ghost use Rattle.text.specs.Write.{Wrote};
+ghost use Rattle.text.specs.Writer.{writes};
 ghost use Rattle.listing.specs.Listing.{slot_line};
 
 pub mod read;
 
 use lend::{Link, Slot};
-
-// The byte as a wider number.
-fn wide(byte: u8) -> u32
-    ensures { result ≡ byte }
-{
-    byte as u32
-}
+use text::write::Writer;
 
 // Writes the listing's line of a page that keeps this slot, and nothing where it is empty.
-pub fn put_slot(out: &mut [u8], at: usize, space: u32, page: u32, slot: Slot) -> usize
-    ensures { Wrote out.old at (slot_line space page slot) out.new result }
+pub fn put_slot(out: &mut Writer<'_>, space: u32, page: u32, slot: Slot)
+    ensures { out.new ≡ writes out.old (slot_line space page slot) }
 {
-    let link = slot.link;
-    let rights = wide(slot.rights);
-    match link {
-        Link::Nothing => at,
-        Link::Frame(_) => text::write::put_page(out, at, space, page, 0, 0, rights),
-        Link::Page(s, p) => text::write::put_page(out, at, space, page, wide(s), wide(p), rights),
+    let rights = u32::from(slot.rights);
+    match slot.link {
+        Link::Nothing => {}
+        Link::Frame(_) => out.page(space, page, 0, 0, rights),
+        Link::Page(s, p) => out.page(space, page, u32::from(s), u32::from(p), rights),
     }
 }

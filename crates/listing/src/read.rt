@@ -1,55 +1,67 @@
 // The lines of a listing, read from a slice: once for both models.
-ghost use Rattle.std.specs.Prelude.{◌≡◌};
-ghost use Rattle.listing.specs.Read.{ended as ended_of, live_fields, held_fields, page_fields, one_fits, refusal as refusal_of};
+ghost use Rattle.std.specs.Prelude.{◌≡◌, [], ◌∷◌};
+ghost use Rattle.text.specs.Fields.{fields};
+ghost use Rattle.listing.specs.Read.{ended as ended_of, up_to, live_in, held_in, row_in, refusal};
+ghost use Rattle.lend.specs.Refusals.{answer_of};
 ghost use Rattle.listing.specs.Loop.{rises_to};
 
-use text::Fields;
-use text::read::{five_fields, one_field};
+use lend::{Refusal, first_refusal};
+use text::read::fields;
+
+// What the line of a held page says: the page, its parent, and its rights.
+#[derive(Clone, Copy, PartialEq, Eq, Debug)]
+pub struct Row {
+    pub space: u32,
+    pub page: u32,
+    pub parent: u32,
+    pub at: u32,
+    pub rights: u32,
+}
 
 // Whether the last byte is a newline.
 pub fn ended(s: &[u8]) -> bool
     ensures { result ≡ ended_of s.now }
 {
-    if s.len() == 0 {
-        return false;
-    }
-    let at = s.len() - 1;
-    s[at] == b'\n'
+    s.last().is_some_and(|&byte| byte == b'\n')
 }
 
-// The first line of a listing.
-pub fn live_fields(line: &[u8]) -> Fields
-    ensures { result ≡ live_fields line.now }
+// The number of a line that is a key and a number no larger than the most.
+fn one_number(line: &[u8], key: &[u8], most: u32) -> Option<u32>
+    ensures { result ≡ up_to most (fields (key.now ∷ []) line.now) }
 {
-    one_field(line, b"live=")
+    let [n] = fields::<1>(line, &[key])?;
+    if n <= most { Some(n) } else { None }
 }
 
-// The last line of a listing.
-pub fn held_fields(line: &[u8]) -> Fields
-    ensures { result ≡ held_fields line.now }
+// The number of the first line of a listing.
+pub fn live_line(line: &[u8], most: u32) -> Option<u32>
+    ensures { result ≡ live_in most line.now }
 {
-    one_field(line, b"held=")
+    one_number(line, b"live=", most)
 }
 
-// A line between them.
-pub fn page_fields(line: &[u8]) -> Fields
-    ensures { result ≡ page_fields line.now }
+// The number of the last line of a listing.
+pub fn held_line(line: &[u8], most: u32) -> Option<u32>
+    ensures { result ≡ held_in most line.now }
 {
-    five_fields(
+    one_number(line, b"held=", most)
+}
+
+// What a line between them says.
+pub fn page_line(line: &[u8]) -> Option<Row>
+    ensures { result ≡ row_in line.now }
+{
+    let [space, page, parent, at, rights] = fields::<5>(
         line,
-        b"space=",
-        b" page=",
-        b" parent=",
-        b" at=",
-        b" rights=",
-    )
-}
-
-// Whether the line of one number is read, and its number is no larger than the most.
-pub fn one_fits(f: Fields, most: u32) -> bool
-    ensures { result ≡ one_fits f most }
-{
-    f.ok & (f.first <= most)
+        &[b"space=", b" page=", b" parent=", b" at=", b" rights="],
+    )?;
+    Some(Row {
+        space,
+        page,
+        parent,
+        at,
+        rights,
+    })
 }
 
 // Whether pages that rose as far as the last one still rise with the next.
@@ -59,11 +71,13 @@ pub fn rises(rising: bool, last: usize, next: usize) -> bool
     rising & (last < next)
 }
 
-// The number of a text by what was found of it; 0 where nothing is against it.
-pub fn refusal(formed: bool, ordered: bool, sound: bool) -> u32
-    ensures { result ≡ refusal_of formed ordered sound }
+// What refuses a text, by what was found of it.
+pub fn judged(formed: bool, ordered: bool, sound: bool) -> Result<(), Refusal>
+    ensures { answer_of result ≡ refusal formed ordered sound }
 {
-    let n = lend::pick(!sound, 1, 0);
-    let n = lend::pick(!ordered, 18, n);
-    lend::pick(!formed, 17, n)
+    first_refusal(&[
+        (!formed, Refusal::MalformedListing),
+        (!ordered, Refusal::DisorderedListing),
+        (!sound, Refusal::Unsound),
+    ])
 }

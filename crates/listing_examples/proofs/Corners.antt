@@ -13,13 +13,13 @@ use Rattle.lend.specs.Rights.{less, within}
 use Rattle.lend.specs.SoundTest.{slot_test, pages_test, cache_test, summary_test, sound_test}
 use Rattle.lend.specs.Start.{start_board}
 use Rattle.text.specs.Ascii.{bytes, newline}
-use Rattle.text.specs.Decimal.{decimal_in, decimal, digit_of, first_digit, one_more_digit, number_at}
-use Rattle.text.specs.Fields.{key_at, field_at, one_field, three_fields, five_fields}
+use Rattle.text.specs.Decimal.{decimal_in, decimal, digit_of, more_digits, number}
+use Rattle.text.specs.Fields.{after_key, field, fields}
 use Rattle.text.specs.Lines.{lines}
 use Rattle.text.specs.Write.{entry}
 use Rattle.listing.specs.Live.{live_number, live_flags}
 use Rattle.listing.specs.Content.{rising_above, placed, board_of}
-use Rattle.listing.specs.Read.{accepted, live_fields, held_fields, page_fields, page_fits, held_last, rest_of, content_of, ended, said, refusal, judged, reading}
+use Rattle.listing.specs.Read.{accepted, live_in, held_in, row_in, row_fits, held_last, rest_of, content_of, ended, said, refusal, judged, reading}
 
 -- lines, each with its newline
 abbrev text : List String → List ℕ
@@ -64,7 +64,7 @@ pub record Corners : Type 0 where
   pub disorder_first : answer ("live=1" ∷ "held=1" ∷ []) ≡ 18
 
 pub corners : Corners
-unfolding place_for cached empty_in line frame every some count tabulate_from less within slot_test pages_test cache_test sound_test summary_test summary_to start_board decimal_in decimal digit_of first_digit one_more_digit number_at key_at field_at one_field three_fields five_fields lines entry live_number live_flags rising_above placed board_of live_fields held_fields page_fields page_fits held_last rest_of content_of ended said refusal judged reading
+unfolding place_for cached empty_in line frame every some count tabulate_from less within slot_test pages_test cache_test sound_test summary_test summary_to start_board decimal_in decimal digit_of more_digits number after_key field fields lines entry live_number live_flags rising_above placed board_of live_in held_in row_in row_fits held_last rest_of content_of ended said refusal judged reading
 corners = record {
   start = refl;
   session = refl;

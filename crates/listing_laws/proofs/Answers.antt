@@ -3,7 +3,7 @@ use Prim.Native.Nat.{ℕ}
 use mathlib.Core.Path.{◌≡◌, refl, sym, ap, ◌∙◌}
 use mathlib.Core.Bool.{Bool, true, false, ◌&&◌}
 use mathlib.Core.List.{List}
-use mathlib.Core.Option.{Option, none, some}
+use Rattle.std.specs.Prelude.{Option, Some, None}
 use native.Mathlib.Omega.{arith}
 use lib.ListN.{length}
 use lib.Dec.{T, eqb, eqb→eq}
@@ -56,8 +56,8 @@ reads z small s = record {
     none_said never = go (said z s) refl
       where
         go : (x : Option Content) → said z s ≡ x → answer_by z x ≡ refused z 17
-        go none e = refl
-        go (some c) e = absurd (never c (said_back z s c e))
+        go None e = refl
+        go (Some c) e = absurd (never c (said_back z s c e))
 
 -- an accepted text: what it says, in order and sound
 pub record Taken (z : Sizes) (s : List ℕ) (b : Tables) : Type 0 where
@@ -73,8 +73,8 @@ unfolding reading refusal judged
 taken z s b e = go (said z s) refl e
   where
     go : (x : Option Content) → said z s ≡ x → answer_by z x ≡ accepted b → Taken z s b
-    go none q e = let n : ◌≡◌ {A = ℕ} 17 0 = ap (λ (a : Answer). a.number) e in absurd (omega arith)
-    go (some c) q e = order (order_test z c) refl (sound_test z (board_of z c)) refl e
+    go None q e = let n : ◌≡◌ {A = ℕ} 17 0 = ap (λ (a : Answer). a.number) e in absurd (omega arith)
+    go (Some c) q e = order (order_test z c) refl (sound_test z (board_of z c)) refl e
       where
         order : (t : Bool) → order_test z c ≡ t → (u : Bool) → sound_test z (board_of z c) ≡ u
             → by_number z (board_of z c) (refusal true t u) ≡ accepted b → Taken z s b
@@ -92,7 +92,7 @@ taken z s b e = go (said z s) refl e
 
 -- a text says one thing at most
 pub says_once : (z : Sizes) → Readable z → (s : List ℕ) (c d : Content) → Says z s c → Says z s d → c ≡ d
-says_once z small s c d h g = let e : some c ≡ some d = sym (said_of z small s c h) ∙ said_of z small s d g in cc
+says_once z small s c d h g = let e : Some c ≡ Some d = sym (said_of z small s c h) ∙ said_of z small s d g in cc
 
 -- and so one answer only is right
 pub reads_once : (z : Sizes) → Readable z → (s : List ℕ) (a : Answer) → Reads z s a → a ≡ reading z s
@@ -102,11 +102,11 @@ reads_once z small s a h = go (said z s) refl
     r = reads z small s
 
     go : (x : Option Content) → said z s ≡ x → a ≡ reading z s
-    go none e = h.malformed (λ c g. absurd (never c g)) ∙ sym (r.malformed (λ c g. absurd (never c g)))
+    go None e = h.malformed (λ c g. absurd (never c g)) ∙ sym (r.malformed (λ c g. absurd (never c g)))
       where
         never : (c : Content) → Says z s c → ⊥
-        never c g = let n : none ≡ some c = sym e ∙ said_of z small s c g in let w : ◌≡◌ {A = ℕ} 0 1 = cc in omega arith
-    go (some c) e = order (order_test z c) refl (sound_test z (board_of z c)) refl
+        never c g = let n : None ≡ Some c = sym e ∙ said_of z small s c g in let w : ◌≡◌ {A = ℕ} 0 1 = cc in omega arith
+    go (Some c) e = order (order_test z c) refl (sound_test z (board_of z c)) refl
       where
         g : Says z s c
         g = said_back z s c e

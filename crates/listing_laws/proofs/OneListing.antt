@@ -4,7 +4,7 @@ use mathlib.Core.Path.{◌≡◌, refl, sym, ap, ◌∙◌}
 use mathlib.Core.Bool.{Bool, true, false, ◌&&◌}
 use mathlib.Core.Logic.{◌⊎◌, inl, inr}
 use mathlib.Core.List.{List}
-use mathlib.Core.Option.{Option, none, some}
+use Rattle.std.specs.Prelude.{Option, Some, None}
 use lib.ListN.{length}
 use lib.Dec.{eqb}
 use Rattle.lend.specs.Sizes.{Sizes}
@@ -36,8 +36,8 @@ unfolding reading judged
 either z s = go (said z s)
   where
     go : (x : Option Content) → Either z (answer_by z x)
-    go none = inr refl
-    go (some c) =
+    go None = inr refl
+    go (Some c) =
         by_number_law z (board_of z c) (refusal true (rising_above z 0 c.rows && eqb (length c.rows) c.held) (sound_test z (board_of z c)))
 
 -- with every refusal it is the start board

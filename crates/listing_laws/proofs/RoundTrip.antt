@@ -25,7 +25,8 @@ use Rattle.lend.specs.Start.{start_board}
 use Rattle.lend_sound.proofs.Start.{start_pool, start_empty}
 use Rattle.listing.specs.Live.{live_number, live_flags}
 use Rattle.listing.specs.Listing.{pages_listed, held_outside, listing_of}
-use Rattle.listing.specs.Content.{Row, Content, spelt, RowFits, AllFit, no_rows, one_row, Fits, row_key, rising_above, Ordered, row_slot, placed, board_of, cleared}
+use Rattle.listing.specs.declared.read.Row.{Row}
+use Rattle.listing.specs.Content.{Content, spelt, RowFits, AllFit, no_rows, one_row, Fits, row_key, rising_above, Ordered, row_slot, placed, board_of, cleared}
 use Rattle.listing.specs.Read.{accepted, reading}
 use Rattle.listing.proofs.Live.{flags_of_number, number_of_flags, number_most}
 use Rattle.listing.proofs.Writing.{none_counted}

@@ -21,7 +21,8 @@ use Rattle.lend_sound.proofs.Lines.{space_of_key}
 use Rattle.text.specs.Write.{page_line}
 use Rattle.listing.proofs.Said.{key_below}
 use Rattle.listing.specs.Listing.{link_line, slot_line, page_in, pages_from}
-use Rattle.listing.specs.Content.{Row, row_lines, RowFits, AllFit, no_rows, one_row, row_key, rising_above, row_slot, placed}
+use Rattle.listing.specs.declared.read.Row.{Row}
+use Rattle.listing.specs.Content.{row_lines, RowFits, AllFit, no_rows, one_row, row_key, rising_above, row_slot, placed}
 
 -- the space and the page that a line names as the parent
 abbrev pub parent_space : Link → ℕ

@@ -2,7 +2,7 @@
 use Prim.Native.Nat.{ℕ, suc, ◌+◌, ◌*◌, ◌-◌, ◌<◌, ◌≤◌, zero-le}
 use mathlib.Core.Path.{◌≡◌, refl, ap}
 use mathlib.Core.Bool.{Bool, true, false, cond}
-use mathlib.Core.Logic.{◌⊎◌, inl, inr}
+use Rattle.std.specs.Prelude.{Option, Some, None}
 use mathlib.Core.List.{List, [], ◌∷◌}
 use native.Mathlib.Omega.{arith}
 use lib.ListN.{length, length-append, take, length-take}
@@ -13,7 +13,7 @@ use Rattle.lend.specs.Tables.{Tables, State, alone}
 use Rattle.lend.specs.Start.{start_board}
 use Rattle.lend.specs.Calls.{Reply}
 use Rattle.text.specs.declared.Request.{Request}
-use Rattle.text.specs.declared.Request.TheVariants.{Create, Delete, Unmap, Flush, Map, Grant, Translate, Malformed}
+use Rattle.text.specs.declared.Request.TheVariants.{Create, Delete, Unmap, Flush, Map, Grant, Translate}
 use Rattle.text.specs.Ascii.{newline}
 use Rattle.text.specs.Lines.{lines, in_front}
 use Rattle.text.specs.Request.{request_of, is_comment, spell}
@@ -47,7 +47,7 @@ unfolding malformed_line write.entry
 malformed_length n h = simp length-append (omega (arith, decimal_shorter 4 n (omega arith)))
 
 -- ── a turn ───────────────────────────────────────────────────────────────
-said_length : (n : ℕ) (q : Request) (r : Reply) → n ≤ 99999 → length (said_line n (said_of q r)) ≤ 76
+said_length : (n : ℕ) (q : Request) (r : Reply) → n ≤ 99999 → length (said_line n (said_of (Some q) r)) ≤ 76
 unfolding said_line
 said_length n (Create s) r h = omega (arith, answer_length n r.number r.emptied)
 said_length n (Delete s) r h = omega (arith, answer_length n r.number r.emptied)
@@ -56,13 +56,14 @@ said_length n (Flush s p d) r h = omega (arith, answer_length n r.number r.empti
 said_length n (Map f p t a d) r h = omega (arith, answer_length n r.number r.emptied)
 said_length n (Grant f p t a d) r h = omega (arith, answer_length n r.number r.emptied)
 said_length n (Translate s a d) r h = translation_length n r.number r.address r.hit r.links
-said_length n Malformed r h = omega (arith, malformed_length n h)
 
--- a line that is not malformed is long, and one that is malformed is answered shortly
-request_length : (n : ℕ) (line : List ℕ) (q : Request) (r : Reply) → n ≤ 99999 → (q ≡ Malformed) ⊎ Spelt line q → length (said_line n (said_of q r)) ≤ 21 * (length line + 1)
+-- a line that asks for something is long, and one that is malformed is answered shortly
+request_length : (n : ℕ) (line : List ℕ) (o : Option Request) (r : Reply) → n ≤ 99999 → ((q : Request) → o ≡ Some q → Spelt line q)
+    → length (said_line n (said_of o r)) ≤ 21 * (length line + 1)
 unfolding said_line
-request_length n line q r h (inl e) = rw e (omega (arith, malformed_length n h))
-request_length n line q r h (inr w) =
+request_length n line None r h f = omega (arith, malformed_length n h)
+request_length n line (Some q) r h f =
+    let w = f q refl in
     let l : length line ≡ length (spell q) = ap length w.0 in
     omega (arith, said_length n q r h, spell_shortest q w.1)
 

@@ -1,15 +1,20 @@
--- Only the first bytes of an input and of a listing are read: a whole one, a longer one; and the ends of both runs.
+-- The first bytes of an input and of a listing; a listing that was read, and one that was refused; and the ends of both runs.
 use Prim.Native.Nat.{ℕ, ◌<◌, ◌≤◌}
-use mathlib.Core.Path.{◌≡◌, sym, ap, ◌∙◌}
+use mathlib.Core.Path.{◌≡◌, sym}
 use mathlib.Core.List.{List}
 use native.Mathlib.Omega.{arith}
 use lib.ListN.{length, take}
-use lib.Seq.{take_all, length-take-le}
+use lib.Seq.{take_all}
+use Rattle.std.proofs.Common.{Option, None, Some, Bor, inl, inr}
+use Rattle.std.specs.Option.{unwrap_or}
+use Rattle.std.specs.Slice.{IsGetRangeResult}
 use borrow.Author.Tests.{eq-eqb, ne_eqb}
 use Rattle.lend.specs.Sizes.{Sizes}
 use Rattle.lend.specs.Tables.{Tables}
 use Rattle.lend.specs.Start.{start_board}
+use Rattle.text.specs.declared.write.Writer.{Writer}
 use Rattle.text.specs.Write.{last_position, Wrote, refused_line}
+use Rattle.text.specs.Writer.{writes}
 use Rattle.listing.specs.Read.{Answer, reading}
 use Rattle.script.specs.Script.{input_limit, output_of, script_output}
 use Rattle.script.specs.From.{output_by, from_output}
@@ -18,34 +23,28 @@ use Rattle.script.specs.Run.{enough, Ran, RanFrom}
 use Rattle.script.proofs.Bound.{enough_most, script_length, from_length}
 use Rattle.script.proofs.Runs.{told_short, told_whole}
 
--- a write of the same bytes
-same_bytes : {s : List ℕ} {at : ℕ} {bs cs s' : List ℕ} {r : ℕ} → bs ≡ cs → Wrote s at bs s' r → Wrote s at cs s' r
-same_bytes e w = rw e at w
+-- the first bytes of a slice: as many as are read, or all where it is shorter
+pub record FirstOf (s f : List ℕ) : Type 0 where
+  pub bytes : f ≡ take input_limit s
+  pub within : length f ≤ input_limit
+
+pub first_of : (s : Bor (List ℕ)) (r : Option (Bor (List ℕ))) → IsGetRangeResult s.now 0 input_limit r → FirstOf s.now (unwrap_or r s).now
+first_of s None h = elim h.0 [
+  | inl e ↦ absurd (omega arith)
+  | inr e ↦ record { bytes = sym (take_all input_limit s.now (omega arith)); within = omega arith }
+]
+first_of s (Some x) h = record { bytes = h.0.2; within = omega (arith, h.0.3) }
 
 module _ (z : Sizes) where
-  -- ── the first bytes ──────────────────────────────────────────────────────
-  pub enough_whole : (s : List ℕ) {e : ℕ} → length s ≤ input_limit → e ≡ output_bound z (length s) → e ≡ enough z s
-  enough_whole s h q = q ∙ ap (λ (l : List ℕ). output_bound z (length l)) (sym (take_all input_limit s h))
-
-  pub enough_part : (s : List ℕ) {e : ℕ} → input_limit < length s → e ≡ output_bound z input_limit → e ≡ enough z s
-  enough_part s h q = q ∙ ap (output_bound z) (sym (length-take-le input_limit s (omega arith)))
-
-  pub input_whole : (b : Tables) (s : List ℕ) {out out' : List ℕ} {r : ℕ} → length s ≤ input_limit → Wrote out 0 (output_of z b s) out' r
-      → Wrote out 0 (output_of z b (take input_limit s)) out' r
-  input_whole b s h w = same_bytes (ap (output_of z b) (sym (take_all input_limit s h))) w
-
-  pub listing_whole : (s : List ℕ) {a : Answer} → length s ≤ input_limit → a ≡ reading z s → a ≡ reading z (take input_limit s)
-  listing_whole s h q = q ∙ ap (reading z) (sym (take_all input_limit s h))
-
   -- ── from the answer to a listing ─────────────────────────────────────────
-  module _ (a : Answer) (s : List ℕ) {out out' : List ℕ} {r : ℕ} where
-    pub by_board : a.number ≡ 0 → Wrote out 0 (output_of z a.board (take input_limit s)) out' r → Wrote out 0 (output_by z a s) out' r
+  module _ (a : Answer) (s : List ℕ) (w : Writer) {v : Writer} where
+    pub by_board : a.number ≡ 0 → v ≡ writes w (output_of z a.board (take input_limit s)) → v ≡ writes w (output_by z a s)
     unfolding output_by
-    by_board e w = rw (eq-eqb a.number 0 e) w
+    by_board e f = rw (eq-eqb a.number 0 e) f
 
-    pub by_refusal : (a.number ≡ 0 → ⊥) → Wrote out 0 (refused_line a.number) out' r → Wrote out 0 (output_by z a s) out' r
+    pub by_refusal : (a.number ≡ 0 → ⊥) → v ≡ writes w (refused_line a.number) → v ≡ writes w (output_by z a s)
     unfolding output_by
-    by_refusal e w = rw (ne_eqb a.number 0 e) w
+    by_refusal e f = rw (ne_eqb a.number 0 e) f
 
   -- ── both runs: the buffer is too short, or long enough ───────────────────
   module _ (s out : List ℕ) {e : ℕ} (q : e ≡ enough z s) where

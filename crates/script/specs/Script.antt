@@ -1,13 +1,12 @@
 -- The script program as a definition, from the bytes of the input to the bytes of the output (01, 'The script program'), which ends
 -- with the listing of the board (crate listing).
-use Rattle.std.specs.Prelude.{ℕ, ◌+◌, cond, List, [], ◌∷◌, ◌++◌, take}
-use Rattle.std.proofs.Math.Option.{Option, none, some}
+use Rattle.std.specs.Prelude.{ℕ, ◌+◌, cond, List, [], ◌∷◌, ◌++◌, take, Option, Some, None, option_map}
 use Rattle.lend.specs.Sizes.{Sizes}
 use Rattle.lend.specs.Tables.{Tables, State, alone}
 use Rattle.lend.specs.Start.{start_board}
 use Rattle.lend.specs.Calls.{Call, Reply, Outcome, step, refuse}
 use Rattle.text.specs.declared.Request.{Request}
-use Rattle.text.specs.declared.Request.TheVariants.{Create, Delete, Unmap, Flush, Map, Grant, Translate, Malformed}
+use Rattle.text.specs.declared.Request.TheVariants.{Create, Delete, Unmap, Flush, Map, Grant, Translate}
 use Rattle.text.specs.Request.{request_of, is_comment, call_of}
 use Rattle.text.specs.Lines.{lines}
 use Rattle.script.specs.declared.Said.{Said}
@@ -18,22 +17,22 @@ use Rattle.listing.specs.Listing.{listing_of}
 -- ── one line ─────────────────────────────────────────────────────────────
 -- a call is judged by the rules; a malformed line has number 16 and changes nothing
 abbrev pub by_call : Sizes → State → Option Call → Outcome
-by_call z st none = refuse st 16
-by_call z st (some c) = step z st c
+by_call z st None = refuse st 16
+by_call z st (Some c) = step z st c
 
-unfoldable pub judged : Sizes → State → Request → Outcome
-judged z st q = by_call z st (call_of q)
+unfoldable pub judged : Sizes → State → Option Request → Outcome
+judged z st q = by_call z st (option_map call_of q)
 
 -- what a request says: translate its address, hit and links, every other call what it emptied, and a malformed line nothing more
-abbrev pub said_of : Request → Reply → Said
-said_of (Create space) r = Emptied r.number r.emptied
-said_of (Delete space) r = Emptied r.number r.emptied
-said_of (Unmap space page rights) r = Emptied r.number r.emptied
-said_of (Flush space page rights) r = Emptied r.number r.emptied
-said_of (Map from page to at rights) r = Emptied r.number r.emptied
-said_of (Grant from page to at rights) r = Emptied r.number r.emptied
-said_of (Translate space address rights) r = Translated r.number r.address r.hit r.links
-said_of Malformed r = Garbled
+abbrev pub said_of : Option Request → Reply → Said
+said_of (Some (Create space)) r = Emptied r.number r.emptied
+said_of (Some (Delete space)) r = Emptied r.number r.emptied
+said_of (Some (Unmap space page rights)) r = Emptied r.number r.emptied
+said_of (Some (Flush space page rights)) r = Emptied r.number r.emptied
+said_of (Some (Map from page to at rights)) r = Emptied r.number r.emptied
+said_of (Some (Grant from page to at rights)) r = Emptied r.number r.emptied
+said_of (Some (Translate space address rights)) r = Translated r.number r.address r.hit r.links
+said_of None r = Garbled
 
 -- what a line says, and the state after it
 pub record Turn : Type 0 where
@@ -43,7 +42,7 @@ pub record Turn : Type 0 where
 abbrev pub silent : State → Turn
 silent st = record { said = Silent; state = st }
 
-abbrev pub spoken : Request → Outcome → Turn
+abbrev pub spoken : Option Request → Outcome → Turn
 spoken q o = record { said = said_of q o.reply; state = o.state }
 
 -- a comment is skipped, and any other line is answered

@@ -3,8 +3,10 @@
 #![tactic(auto)]
 
 ghost use Rattle.std.specs.Prelude.{◌≡◌};
-ghost use Rattle.text.specs.Write.{Wrote};
+ghost use Rattle.text.specs.Writer.{writes};
 ghost use Rattle.script.specs.Script.{said_line};
+
+use text::write::Writer;
 
 // Only so many bytes of an input are read, and are the whole input.
 pub const INPUT_LIMIT: usize = 65536;
@@ -35,20 +37,18 @@ pub enum Said {
 }
 
 // Writes what the line of this number says.
-pub fn say(out: &mut [u8], at: usize, line: u32, said: Said) -> usize
-    ensures { Wrote out.old at (said_line line said) out.new result }
+pub fn say(out: &mut Writer<'_>, line: u32, said: Said)
+    ensures { out.new ≡ writes out.old (said_line line said) }
 {
     match said {
-        Said::Silent => at,
-        Said::Garbled => text::write::put_malformed(out, at, line),
-        Said::Emptied { number, emptied } => text::write::put_answer(
-            out, at, line, number, emptied,
-        ),
+        Said::Silent => {}
+        Said::Garbled => out.malformed(line),
+        Said::Emptied { number, emptied } => out.answer(line, number, emptied),
         Said::Translated {
             number,
             address,
             hit,
             links,
-        } => text::write::put_translation(out, at, line, number, address, hit, links),
+        } => out.translation(line, number, address, hit, links),
     }
 }

@@ -17,10 +17,10 @@ use Rattle.lend.specs.Start.{start_board}
 use Rattle.lend.specs.Translate.{physical, links_to, hit, looked}
 use Rattle.lend.specs.Withdraw.{unmapped, flushed}
 use Rattle.text.specs.Ascii.{bytes, newline}
-use Rattle.text.specs.Decimal.{decimal_in, decimal, digit_of, first_digit, one_more_digit, number_at}
-use Rattle.text.specs.Fields.{key_at, field_at, one_field, three_fields, five_fields}
+use Rattle.text.specs.Decimal.{decimal_in, decimal, digit_of, more_digits, number as number_at_front}
+use Rattle.text.specs.Fields.{after_key, field, fields}
 use Rattle.text.specs.Lines.{lines}
-use Rattle.text.specs.Request.{create_or, delete_or, unmap_or, flush_or, map_or, grant_or, translate_or, request_of, is_comment}
+use Rattle.text.specs.Request.{create_in, delete_in, unmap_in, flush_in, map_in, grant_in, translate_in, request_of, is_comment}
 use Rattle.text.specs.Write.{entry, answer_line, translation_line, malformed_line, live_line, page_line, held_line}
 use Rattle.listing.specs.Live.{live_number}
 use Rattle.listing.specs.Listing.{slot_line, pages_from, pages_listed, held_outside, listing_of}
@@ -59,12 +59,12 @@ output =
     ∷ []
 
 pub session : script_output sizes.entry (text input) ≡ text output
-unfolding place_for cached empty_in goes_to next_after lost_right cases number board_after memory_after report step emptied mapped line frame links every some count tabulate_from less within slot_test pages_test cache_test sound_test summary_test summary_to start_board physical links_to hit looked unmapped flushed decimal_in decimal digit_of first_digit one_more_digit number_at key_at field_at one_field three_fields five_fields lines create_or delete_or unmap_or flush_or map_or grant_or translate_or request_of is_comment entry answer_line translation_line malformed_line live_line page_line held_line judged turn said_line live_number slot_line pages_from pages_listed held_outside listing_of answers output_of script_output
+unfolding place_for cached empty_in goes_to next_after lost_right cases number board_after memory_after report step emptied mapped line frame links every some count tabulate_from less within slot_test pages_test cache_test sound_test summary_test summary_to start_board physical links_to hit looked unmapped flushed decimal_in decimal digit_of more_digits number_at_front after_key field fields lines create_in delete_in unmap_in flush_in map_in grant_in translate_in request_of is_comment entry answer_line translation_line malformed_line live_line page_line held_line judged turn said_line live_number slot_line pages_from pages_listed held_outside listing_of answers output_of script_output
 session = refl
 
 -- and the same on the premium model
 pub premium_session : script_output sizes.premium (text input) ≡ text output
-unfolding place_for cached empty_in goes_to next_after lost_right cases number board_after memory_after report step emptied mapped line frame links every some count tabulate_from less within slot_test pages_test cache_test sound_test summary_test summary_to start_board physical links_to hit looked unmapped flushed decimal_in decimal digit_of first_digit one_more_digit number_at key_at field_at one_field three_fields five_fields lines create_or delete_or unmap_or flush_or map_or grant_or translate_or request_of is_comment entry answer_line translation_line malformed_line live_line page_line held_line judged turn said_line live_number slot_line pages_from pages_listed held_outside listing_of answers output_of script_output
+unfolding place_for cached empty_in goes_to next_after lost_right cases number board_after memory_after report step emptied mapped line frame links every some count tabulate_from less within slot_test pages_test cache_test sound_test summary_test summary_to start_board physical links_to hit looked unmapped flushed decimal_in decimal digit_of more_digits number_at_front after_key field fields lines create_in delete_in unmap_in flush_in map_in grant_in translate_in request_of is_comment entry answer_line translation_line malformed_line live_line page_line held_line judged turn said_line live_number slot_line pages_from pages_listed held_outside listing_of answers output_of script_output
 premium_session = refl
 
 -- ── what else the document says of lines, each on a script of its own ────
@@ -80,7 +80,7 @@ pub record Corners : Type 0 where
   pub other_order : script_output sizes.entry (bytes "op=unmap page=0 space=1 rights=2\n") ≡ bytes "line=1 answer=16\nlive=3\nheld=0\n"
 
 pub corners : Corners
-unfolding place_for cached empty_in goes_to next_after lost_right cases number board_after memory_after report step emptied mapped line frame links every some count tabulate_from less within slot_test pages_test cache_test sound_test summary_test summary_to start_board physical links_to hit looked unmapped flushed decimal_in decimal digit_of first_digit one_more_digit number_at key_at field_at one_field three_fields five_fields lines create_or delete_or unmap_or flush_or map_or grant_or translate_or request_of is_comment entry answer_line translation_line malformed_line live_line page_line held_line judged turn said_line live_number slot_line pages_from pages_listed held_outside listing_of answers output_of script_output
+unfolding place_for cached empty_in goes_to next_after lost_right cases number board_after memory_after report step emptied mapped line frame links every some count tabulate_from less within slot_test pages_test cache_test sound_test summary_test summary_to start_board physical links_to hit looked unmapped flushed decimal_in decimal digit_of more_digits number_at_front after_key field fields lines create_in delete_in unmap_in flush_in map_in grant_in translate_in request_of is_comment entry answer_line translation_line malformed_line live_line page_line held_line judged turn said_line live_number slot_line pages_from pages_listed held_outside listing_of answers output_of script_output
 corners = record {
   empty_input = refl;
   empty_line = refl;

@@ -1,17 +1,8 @@
 -- `ended` meets its contract.
 use Rattle.listing.proofs as own
-use Rattle.listing.specs as spec
-use spec.Read.{ended}
-use Prim.Native.Nat.{ℕ, ◌-◌}
-use native.Mathlib.Omega.{arith}
-use lib.ListN.{length, get_or-eq_default}
+use own.Ended.{last_byte}
 use borrow.Author.Rules.{rules}
 use own.read.ended.Goals as goal
 
-pub returns-then-s-eq0 : goal.returns-then-s-eq0
-unfolding ended
-returns-then-s-eq0 c = rw (get_or-eq_default {A = ℕ} c.args.s.now 0 {n = length c.args.s.now - 1} (omega arith))
-
 pub returns : goal.returns
-unfolding ended
-returns c = search rules
+returns c = last_byte c.args.s.now c.last.result c.last.ensures.value c.is_some_and.ensures (λ x w. search rules)

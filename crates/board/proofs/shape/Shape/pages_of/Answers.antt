@@ -1,0 +1,9 @@
+-- `pages_of` meets its contract: the goals that are left, from the invariant.
+use Rattle.board.proofs as own
+use Rattle.lend_basics.proofs.Loops.{built_all}
+use Rattle.lend_code.specs.Inner.{space_pages}
+use own.shape.Shape.pages_of.Goals as goal
+
+pub returns : goal.returns
+unfolding space_pages
+returns g c = rw (← c.args.self.is_model.slots_are) (built_all _ _ _ _ _ c.loop-k.invariant c.loop-k-test.false)

@@ -1,9 +1,0 @@
--- `rights_of` meets its contract: the goals that are left, from the invariant.
-use Rattle.entry.proofs as own
-use Rattle.lend_basics.proofs.Loops.{built_all}
-use Rattle.lend_code.specs.Inner.{rights_of}
-use own.rights.rights_of.Goals as goal
-
-pub returns : goal.returns
-unfolding rights_of
-returns c = built_all _ _ _ _ _ c.loop-k.invariant c.loop-k-test.false

@@ -1,4 +1,0 @@
-pub mod Sizes
-pub mod Board
-pub mod Cache
-pub mod Range

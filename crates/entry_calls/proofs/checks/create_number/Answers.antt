@@ -1,8 +1,0 @@
--- `create_number` meets its contract: the tests are the cases, in their order.
-use Rattle.entry_calls.proofs as own
-use Rattle.lend.specs.Calls.{number, cases}
-use own.checks.create_number.Goals as goal
-
-pub returns : goal.returns
-unfolding number cases
-returns c = cc

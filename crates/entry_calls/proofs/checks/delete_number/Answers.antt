@@ -1,8 +1,0 @@
--- `delete_number` meets its contract: the tests are the cases, in their order.
-use Rattle.entry_calls.proofs as own
-use Rattle.lend.specs.Calls.{cases}
-use own.checks.delete_number.Goals as goal
-
-pub returns : goal.returns
-unfolding cases
-returns c = cc

@@ -1,5 +1,0 @@
-// A board of this model as bytes: read from any bytes, and written over bytes of the right length.
-#![tactic(auto)]
-
-pub mod read;
-pub mod write;

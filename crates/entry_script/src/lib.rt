@@ -1,6 +1,0 @@
-// A script run on a board of this model, from the bytes of the input to the bytes of the output.
-#![tactic(auto)]
-
-mod judge;
-mod lines;
-pub mod run;

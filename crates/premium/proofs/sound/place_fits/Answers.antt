@@ -1,9 +1,0 @@
--- Made by tools/models.py from crates/entry/proofs/sound/place_fits/Answers.antt: change that file.
--- `place_fits` meets its contract: the code is the definition.
-use Rattle.premium.proofs as own
-use Rattle.lend_code.specs.Inner.{place_fits}
-use own.sound.place_fits.Goals as goal
-
-pub returns : goal.returns
-unfolding place_fits
-returns c = cc

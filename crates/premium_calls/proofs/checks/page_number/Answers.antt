@@ -1,9 +1,0 @@
--- Made by tools/models.py from crates/entry_calls/proofs/checks/page_number/Answers.antt: change that file.
--- `page_number` meets its contract: the tests are the cases, in their order.
-use Rattle.premium_calls.proofs as own
-use Rattle.lend_code.specs.Inner.{page_checks}
-use own.checks.page_number.Goals as goal
-
-pub returns : goal.returns
-unfolding page_checks
-returns c = cc

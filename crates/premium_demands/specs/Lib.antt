@@ -1,2 +1,0 @@
--- Made by tools/models.py from crates/entry_demands/specs/Lib.antt: change that file.
-pub mod Chain

@@ -1,7 +1,0 @@
-// Made by tools/models.py from crates/entry_listing/src/lib.rt: change that file.
-// The listing of a board of this model: written, and read back.
-#![tactic(auto)]
-
-mod live;
-pub mod read;
-pub mod write;

@@ -1,2 +1,0 @@
--- Made by tools/models.py from crates/entry_script/specs/Lib.antt: change that file.
-pub mod Turned

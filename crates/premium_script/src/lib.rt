@@ -1,7 +1,0 @@
-// Made by tools/models.py from crates/entry_script/src/lib.rt: change that file.
-// A script run on a board of this model, from the bytes of the input to the bytes of the output.
-#![tactic(auto)]
-
-mod judge;
-mod lines;
-pub mod run;

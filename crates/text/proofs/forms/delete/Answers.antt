@@ -1,0 +1,16 @@
+-- `delete` meets its contract: the form's numbers make the request, and where there are none there is none.
+use Rattle.text.proofs as own
+use Rattle.text.specs as spec
+use Rattle.std.specs.Prelude.{option_map}
+use mathlib.Core.Path.{ap, ◌∙◌}
+use spec.declared.Request.TheVariants.{Delete}
+use spec.Request.{of_one, delete_in}
+use own.forms.delete.Goals as goal
+
+pub returns-in_err-space : goal.returns-in_err-space
+unfolding delete_in
+returns-in_err-space c = c.from_residual.ensures ∙ ap (option_map (of_one Delete)) c.in_err-space.ensures
+
+pub returns : goal.returns
+unfolding delete_in
+returns c = ap (option_map (of_one Delete)) c.in_ok-space.ensures

@@ -1,0 +1,16 @@
+-- `grant` meets its contract: the form's numbers make the request, and where there are none there is none.
+use Rattle.text.proofs as own
+use Rattle.text.specs as spec
+use Rattle.std.specs.Prelude.{option_map}
+use mathlib.Core.Path.{ap, ◌∙◌}
+use spec.declared.Request.TheVariants.{Grant}
+use spec.Request.{of_five, grant_in}
+use own.forms.grant.Goals as goal
+
+pub returns-in_err-from : goal.returns-in_err-from
+unfolding grant_in
+returns-in_err-from c = c.from_residual.ensures ∙ ap (option_map (of_five Grant)) c.in_err-from.ensures
+
+pub returns : goal.returns
+unfolding grant_in
+returns c = ap (option_map (of_five Grant)) c.in_ok-from.ensures

@@ -1,0 +1,18 @@
+-- `fields` meets its contract: the goals that are left, from the invariant.
+use Rattle.text.proofs as own
+use own.Reading.{read_none, read_more, read_all, read_beyond}
+use mathlib.Core.Path.{◌∙◌}
+use borrow.Author.Rules.{rules}
+use own.read.fields.Goals as goal
+
+pub returns-in_err-n : goal.returns-in_err-n
+returns-in_err-n g c = c.from_residual.ensures ∙ read_none c.loop-i.invariant _ c.loop-i-test.true c.in_err-n.ensures
+
+pub loop-i-preserved : goal.loop-i-preserved
+loop-i-preserved g c = read_more c.loop-i.invariant _ c.loop-i-test.true c.in_ok-n.ensures
+
+pub returns-then-is_empty : goal.returns-then-is_empty
+returns-then-is_empty g c = read_all c.loop-i.invariant c.loop-i-test.false (search rules)
+
+pub returns-else-is_empty : goal.returns-else-is_empty
+returns-else-is_empty g c = read_beyond c.loop-i.invariant c.loop-i-test.false (search rules)

@@ -1,0 +1,11 @@
+-- `page` meets its contract: its writes in a row.
+use Rattle.text.proofs as own
+use mathlib.Core.Path.{refl}
+use mathlib.Core.List.{append_assoc}
+use Rattle.text.specs.Write.{page_line}
+use own.Writing.{writes_more}
+use own.write.Writer.page.Goals as goal
+
+pub returns : goal.returns
+unfolding page_line
+returns c = rw (c.byte.ensures, c.entry-5.ensures, c.entry-4.ensures, c.entry-3.ensures, c.entry-2.ensures, c.entry.ensures) (simp (writes_more, append_assoc) refl)
