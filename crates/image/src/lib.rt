@@ -1,8 +1,8 @@
-// The byte image of a board: what one slot, one live space, one place and one count have to do with their bytes, for every size of table.
-// In specs/ the whole image and its reading, in proofs/ that each undoes the other.
+// The byte image of a board: what a slot, a place and a count have to do with their bytes, for every size of table. In specs/ the whole
+// image and its reading, in proofs/ that each undoes the other.
 #![tactic(auto)]
 
-ghost use Rattle.std.specs.Prelude.{◌≡◌, ◌≤◌, Some, None, cond, leb, eqb};
+ghost use Rattle.std.specs.Prelude.{◌≡◌, Some, None, cond};
 ghost use Rattle.image.specs.Image.{slot_bytes as bytes_of_slot, place_bytes as bytes_of_place, count_bytes as bytes_of_count, slot_reads, slot_in, place_in, count_in};
 
 use lend::{Count, Link, Place, Slot};
@@ -56,17 +56,6 @@ pub fn slot_from(bytes: [u8; 4]) -> Option<Slot>
         _ => return None,
     };
     Some(Slot { link, rights })
-}
-
-// Whether a space is live, where the byte says it: 0 or 1.
-pub fn live_from(byte: u8) -> Option<bool>
-    ensures { result ≡ cond (leb byte 1) (Some (eqb byte 1)) None }
-{
-    match byte {
-        0 => Some(false),
-        1 => Some(true),
-        _ => None,
-    }
 }
 
 // The place of four bytes.
