@@ -34,7 +34,7 @@ module _ {A : Type 0} (f : A → List ℕ) (w : ℕ) (wide : (x : A) → length 
       ∙ (get_or-append-add (f x) (joined f xs) (w * k + c) 0 ∙ joined_at d xs k c (le_of_suc-le-suc h) l)
 
 -- what stands past the first n bytes
-past : (xs ys : List ℕ) (n i j : ℕ) → length xs ≡ n → j ≡ n + i → get_or (xs ++ ys) j 0 ≡ get_or ys i 0
+pub past : (xs ys : List ℕ) (n i j : ℕ) → length xs ≡ n → j ≡ n + i → get_or (xs ++ ys) j 0 ≡ get_or ys i 0
 past xs ys n i j e q = ap (λ (m : ℕ). get_or (xs ++ ys) m 0) (q ∙ ap (λ (m : ℕ). m + i) (sym e)) ∙ get_or-append-add xs ys i 0
 
 -- ── the parts of an image ────────────────────────────────────────────────

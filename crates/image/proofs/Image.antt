@@ -282,15 +282,22 @@ sound_image z bytes h = go (is_image z bytes) refl
     go false e = let u : T (sound_test z (no_board z)) = rw e at h in absurd (rw (no_board_law z) at u)
 
 -- the code makes that board of arrays of one value each
-pub no_board_made : (z : Sizes) (x : Slot) (q : Place) (n : Count) → x ≡ empty_slot → q ≡ empty_place → n ≡ no_count
-    → (record { slots = replicate (slot_count z) x; live = replicate z.spaces false; places = replicate z.places q; next = 0; summary = replicate z.pages n }) ≡ no_board z
+pub no_board_made : (z : Sizes) (n : ℕ) → n ≡ slot_count z
+    → (record {
+      slots = replicate n empty_slot;
+      live = replicate z.spaces false;
+      places = replicate z.places empty_place;
+      next = 0;
+      summary = replicate z.pages no_count;
+    })
+    ≡ no_board z
 unfolding no_board
-no_board_made z x q n e f g = λ i. record {
-  slots = replicate (slot_count z) (e i);
+no_board_made z n e = λ i. record {
+  slots = replicate (e i) empty_slot;
   live = replicate z.spaces false;
-  places = replicate z.places (f i);
+  places = replicate z.places empty_place;
   next = 0;
-  summary = replicate z.pages (g i);
+  summary = replicate z.pages no_count;
 }
 
 -- ── the board of any bytes, as the code finds it ─────────────────────────

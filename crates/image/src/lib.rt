@@ -1,91 +1,68 @@
-// The byte image of a board: what one link and one slot have to do with their bytes, for every size of table. In specs/ the whole image
-// and its reading, in proofs/ that each undoes the other.
+// The byte image of a board: what a slot, a place and a count have to do with their bytes, for every size of table. In specs/ the whole
+// image and its reading, in proofs/ that each undoes the other.
 #![tactic(auto)]
 
-ghost use Rattle.std.specs.Prelude.{◌≡◌};
-ghost use Rattle.image.specs.Image.{kind_of, first_in, second_in, low_byte, high_byte, link_reads, slot_from, place_from, number_from};
+ghost use Rattle.std.specs.Prelude.{◌≡◌, Some, None, cond};
+ghost use Rattle.image.specs.Image.{slot_bytes as bytes_of_slot, place_bytes as bytes_of_place, count_bytes as bytes_of_count, slot_reads, slot_in, place_in, count_in};
 
-use lend::{Link, Place, Slot};
+use lend::{Count, Link, Place, Slot};
 
-pub fn kind(link: Link) -> u8
-    ensures { result ≡ kind_of link }
+// A slot as bytes: the kind of its link and two numbers, 0 where the kind does not use them, and the rights.
+pub fn slot_bytes(slot: Slot) -> [u8; 4]
+    ensures { result ≡ bytes_of_slot slot }
 {
-    match link {
-        Link::Nothing => 0,
-        Link::Frame(_) => 1,
-        Link::Page(_, _) => 2,
+    match slot.link {
+        Link::Nothing => [0, 0, 0, slot.rights],
+        Link::Frame(frame) => [1, frame, 0, slot.rights],
+        Link::Page(space, page) => [2, space, page, slot.rights],
     }
 }
 
-// The first number of a link, 0 where it has none.
-pub fn first(link: Link) -> u8
-    ensures { result ≡ first_in link }
+// A place as bytes, a number each.
+pub fn place_bytes(place: Place) -> [u8; 4]
+    ensures { result ≡ bytes_of_place place }
 {
-    match link {
-        Link::Nothing => 0,
-        Link::Frame(frame) => frame,
-        Link::Page(space, _) => space,
-    }
+    [place.space, place.page, place.frame, place.rights]
 }
 
-// The second number of a link, 0 where it has none.
-pub fn second(link: Link) -> u8
-    ensures { result ≡ second_in link }
+// A count as bytes: each number's low byte, then its high one.
+pub fn count_bytes(count: Count) -> [u8; 8]
+    ensures { result ≡ bytes_of_count count }
 {
-    match link {
-        Link::Nothing => 0,
-        Link::Frame(_) => 0,
-        Link::Page(_, page) => page,
-    }
+    let [held, held_high] = count.held.to_le_bytes();
+    let [read, read_high] = count.read.to_le_bytes();
+    let [write, write_high] = count.write.to_le_bytes();
+    let [execute, execute_high] = count.execute.to_le_bytes();
+    [
+        held,
+        held_high,
+        read,
+        read_high,
+        write,
+        write_high,
+        execute,
+        execute_high,
+    ]
 }
 
-// The low byte of a number of the summary.
-pub fn low(n: u16) -> u8
-    ensures { result ≡ low_byte n }
+// The slot of four bytes, where they are one: the kind is known, and a number that it does not use is 0.
+pub fn slot_from(bytes: [u8; 4]) -> Option<Slot>
+    ensures { result ≡ cond (slot_reads bytes 0) (Some (slot_in bytes 0)) None }
 {
-    (n % 256) as u8
-}
-
-// The high byte of a number of the summary.
-pub fn high(n: u16) -> u8
-    ensures { result ≡ high_byte n }
-{
-    (n / 256) as u8
-}
-
-// Whether a kind and two numbers are a link.
-pub fn link_reads(kind: u8, x: u8, y: u8) -> bool
-    ensures { result ≡ link_reads kind x y }
-{
-    (kind <= 2) & ((1 <= kind) | (x == 0)) & ((2 <= kind) | (y == 0))
-}
-
-// The slot of four bytes.
-pub fn slot_from(kind: u8, x: u8, y: u8, rights: u8) -> Slot
-    ensures { result ≡ slot_from kind x y rights }
-{
-    if kind == 1 {
-        return Slot {
-            link: Link::Frame(x),
-            rights,
-        };
-    }
-    if kind == 2 {
-        return Slot {
-            link: Link::Page(x, y),
-            rights,
-        };
-    }
-    Slot {
-        link: Link::Nothing,
-        rights,
-    }
+    let (link, rights) = match bytes {
+        [0, 0, 0, rights] => (Link::Nothing, rights),
+        [1, frame, 0, rights] => (Link::Frame(frame), rights),
+        [2, space, page, rights] => (Link::Page(space, page), rights),
+        _ => return None,
+    };
+    Some(Slot { link, rights })
 }
 
 // The place of four bytes.
-pub fn place_from(space: u8, page: u8, frame: u8, rights: u8) -> Place
-    ensures { result ≡ place_from space page frame rights }
+pub fn place_from(bytes: [u8; 4]) -> Place
+    ensures { result ≡ place_in bytes 0 }
 {
+    let [space, page, frame, rights] = bytes;
     Place {
         space,
         page,
@@ -94,9 +71,24 @@ pub fn place_from(space: u8, page: u8, frame: u8, rights: u8) -> Place
     }
 }
 
-// The number of two bytes.
-pub fn number_from(low: u8, high: u8) -> u16
-    ensures { result ≡ number_from low high }
+// The count of eight bytes: any two of them are a number.
+pub fn count_from(bytes: [u8; 8]) -> Count
+    ensures { result ≡ count_in bytes 0 }
 {
-    (low as u16) + 256 * (high as u16)
+    let [
+        held,
+        held_high,
+        read,
+        read_high,
+        write,
+        write_high,
+        execute,
+        execute_high,
+    ] = bytes;
+    Count {
+        held: u16::from_le_bytes([held, held_high]),
+        read: u16::from_le_bytes([read, read_high]),
+        write: u16::from_le_bytes([write, write_high]),
+        execute: u16::from_le_bytes([execute, execute_high]),
+    }
 }
