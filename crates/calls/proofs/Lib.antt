@@ -1,1 +1,2 @@
+mod Starts
 mod Withdrawing

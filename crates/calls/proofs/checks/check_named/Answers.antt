@@ -1,17 +1,29 @@
-use Rattle.std.proofs.Common.{rules, ◌≡◌, IfOk, Some, cond, ℕ, ◌+◌, ◌-◌, ◌*◌, ◌<◌, ◌≤◌, length, ◌/◌, ◌%◌, Bool, true, false, nat_eq, nat_lt, List, [], ◌∷◌, ◌++◌, slice_index_or, slice_set, bit_and, bit_or, Fits, w8, w32, w64, Bor, MutBor}
-use Rattle.lend.specs.Numbers.{first_number, bad_rights}
-use Rattle.lend.specs.Tables.{alone}
-use Rattle.lend.specs.Refusals.{answer_of}
-use Rattle.lend.specs.Calls.{Create, Delete, cases}
-use Rattle.lend.specs.Calls.{number as number_of}
-use Rattle.lend.specs.Ranges.{range_of}
-use Rattle.lend_code.specs.Inner.{page_checks}
+-- `check_named` meets its contract: the tests are those of the rules, in their order.
+use mathlib.Core.Path.{◌≡◌, ap, ◌∙◌}
+use mathlib.Core.Bool.{not, ◌||◌}
+use lib.Dec.{leb}
+use Rattle.std.proofs.lemmas.Bool.{le-leb, lt-leb}
+use Rattle.lend.specs.Tables.{alive}
 use Rattle.lend_code.specs.Lending.{named_checks}
-use Rattle.lend_code.specs.Ranges.{one_number, pair_number}
-use Rattle.board.specs.Model.{sizes}
-use Rattle.board.specs.Board.{tables}
 use Rattle.calls.proofs.checks.check_named.Goals as goal
+use Rattle.calls.proofs.checks.check_named.Goals.{then-giver, else-giver, then-not-is_live, else-not-is_live, then-page, else-page}
 
--- src/checks.rt:50:1
 pub returns : goal.returns
-returns g c = ?
+unfolding named_checks
+returns g c =
+    let spaces : c.if-giver.first_refusal ≡ leb g.row.SPACES c.args.from || leb g.row.SPACES c.args.to =
+        elim c.if-giver.branch [
+          | then-giver w ↦ w.first_refusal-is ∙ rw (le-leb _ _ w.if-giver.true)
+          | else-giver w ↦ w.first_refusal-is ∙ rw (lt-leb _ _ w.if-giver.false)
+        ] in
+    let live : c.if-not-is_live.first_refusal ≡ not (alive c.args.b.now.live c.args.from) || not (alive c.args.b.now.live c.args.to) =
+        elim c.if-not-is_live.branch [
+          | then-not-is_live w ↦ w.first_refusal-is ∙ rw (← c.is_live.ensures, w.if-not-is_live.true)
+          | else-not-is_live w ↦ w.first_refusal-is ∙ rw (w.is_live-else-not-is_live.ensures, ← c.is_live.ensures, w.if-not-is_live.false)
+        ] in
+    let pages : c.if-page.first_refusal ≡ leb g.row.PAGES c.args.page || leb g.row.PAGES c.args.at =
+        elim c.if-page.branch [
+          | then-page w ↦ w.first_refusal-is ∙ rw (le-leb _ _ w.if-page.true)
+          | else-page w ↦ w.first_refusal-is ∙ rw (lt-leb _ _ w.if-page.false)
+        ] in
+    c.first_refusal.ensures ∙ rw (spaces, live, pages, c.bad_rights.ensures)
