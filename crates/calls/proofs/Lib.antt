@@ -1,2 +1,3 @@
+mod PageCalls
 mod Starts
 mod Withdrawing
