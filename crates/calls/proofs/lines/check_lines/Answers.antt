@@ -1,11 +1,12 @@
-use Rattle.std.proofs.Common.{rules, ◌≡◌, ℕ, ◌+◌, ◌-◌, ◌*◌, ◌<◌, ◌≤◌, length, ◌/◌, ◌%◌, Bool, true, false, nat_eq, nat_lt, List, [], ◌∷◌, ◌++◌, slice_index_or, slice_set, bit_and, bit_or, Fits, w8, w32, w64, Bor, MutBor}
-use Rattle.lend.specs.Lending.{grant_source}
-use Rattle.lend.specs.Refusals.{answer_of}
-use Rattle.lend_code.specs.Inner.{line_has, only_page}
-use Rattle.lend_code.specs.Lending.{other_in, lines_number}
+-- `check_lines` meets its contract: the tests are the cases, in their order.
+use Rattle.calls.proofs as own
+use mathlib.Core.Path.{refl}
+use Rattle.lend_code.proofs.LendingNumbers.{lines_made}
 use Rattle.board.specs.Model.{sizes}
-use Rattle.calls.proofs.lines.check_lines.Goals as goal
+use own.Others.{meets_made}
+use own.lines.check_lines.Goals as goal
 
--- src/lines.rt:69:1
 pub returns : goal.returns
-returns g c = ?
+returns g c =
+    lines_made (sizes g.row.SPACES g.row.PAGES g.row.PLACES) c.args.b.now.slots c.args.under.now c.args.giver c.args.source c.args.taker c.args.rights _ _ _ _ _ _ _ _ _ _ _ c.inside.ensures
+    c.is_held.ensures c.within.ensures (meets_made _ _ _ _ _ _ c.line_meets.ensures c.pages_of.ensures) c.other_in.ensures c.other_below.ensures refl refl refl refl c.first_refusal.ensures
