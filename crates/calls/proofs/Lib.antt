@@ -3,3 +3,6 @@ mod Starts
 mod Withdrawing
 pub mod Cuts
 pub mod Others
+mod Cuts
+mod Others
+mod PairCalls
