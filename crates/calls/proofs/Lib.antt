@@ -6,3 +6,5 @@ pub mod Others
 mod Cuts
 mod Others
 mod PairCalls
+mod Refused
+mod Spaces
