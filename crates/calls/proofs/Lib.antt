@@ -1,10 +1,8 @@
-mod PageCalls
-mod Starts
-mod Withdrawing
-pub mod Cuts
-pub mod Others
 mod Cuts
 mod Others
+mod PageCalls
 mod PairCalls
 mod Refused
 mod Spaces
+mod Starts
+mod Withdrawing
