@@ -51,7 +51,7 @@ overflow_cast-lent-2 g c =
 pub link-requires : goal.link-requires
 link-requires g c =
     let inside : c.key-taker.result < g.row.SLOTS =
-        omega (arith, c.key-taker.ensures, taker_in (map_shows _ (few_slots c.args.b.now.shape.is_model) _ c.requires _ _ _ _ _ c.in_ok-check_named.ensures), c.args.b.now.shape.is_model.slots_are)
+    omega (arith, c.key-taker.ensures, taker_in (map_shows _ (few_slots c.args.b.now.shape.is_model) _ c.requires _ _ _ _ _ c.in_ok-check_named.ensures), c.args.b.now.shape.is_model.slots_are)
     in search rules
 
 pub overflow_cast-to-2 : goal.overflow_cast-to-2
