@@ -43,7 +43,8 @@ pub(crate) fn grant_page<
     let giver = b.shape.key(from as u8, page as u8);
     let taker = b.shape.key(to as u8, at as u8);
     let kept = b.slots[giver].link;
-    let under_taker = b.line_has(&b.shape.only(taker));
+    let taker_alone = b.shape.only(taker);
+    let under_taker = b.line_has(&taker_alone);
     check_lines(
         b,
         &under_taker,
@@ -59,7 +60,8 @@ pub(crate) fn grant_page<
         rights: asked,
     };
     link(b, &under_taker, taker, giver, granted);
-    let under_giver = b.line_has(&b.shape.only(giver));
+    let giver_alone = b.shape.only(giver);
+    let under_giver = b.line_has(&giver_alone);
     let given = cut(b, &under_giver, giver_loses(asked));
     b.count_lost(usize::from(frame), given);
     Ok(settle(b, &before, to as u8, at as u8))

@@ -38,7 +38,7 @@ returns-in_err-check_lines g c =
     let p = err_from_is_err_and c.from_residual-in_err-check_lines.result c.from_residual-in_err-check_lines.ensures.1 in
     rw (p.1, p.2)
     (map_err_lines _ (few_slots c.args.b.now.shape.is_model) _ c.requires _ _ _ _ _ c.in_ok-check_named.ensures _ _ c.key-giver.ensures c.key-taker.ensures
-    _ _ c.only.ensures c.line_has-under_taker.ensures _ c.in_err-check_lines.ensures)
+    _ _ c.only-taker_alone.ensures c.line_has-under_taker.ensures _ c.in_err-check_lines.ensures)
 
 pub overflow_cast-lent : goal.overflow_cast-lent
 overflow_cast-lent g c =
@@ -65,4 +65,4 @@ overflow_cast-at-2 g c =
 pub returns : goal.returns
 returns g c =
     map_made _ (few_slots c.args.b.now.shape.is_model) _ c.requires _ _ _ _ _ c.in_ok-check_named.ensures _ _ c.key-giver.ensures c.key-taker.ensures
-    _ _ c.only.ensures c.line_has-under_taker.ensures c.in_ok-check_lines.ensures _ _ _ _ c.link.ensures c.rights-before.ensures c.settle.ensures.board c.settle.ensures.emptied
+    _ _ c.only-taker_alone.ensures c.line_has-under_taker.ensures c.in_ok-check_lines.ensures _ _ _ _ c.link.ensures c.rights-before.ensures c.settle.ensures.board c.settle.ensures.emptied
