@@ -2,6 +2,7 @@ mod Cuts
 mod Others
 mod PageCalls
 mod PairCalls
+mod RangeChecks
 mod Refused
 mod Spaces
 mod Starts

@@ -127,8 +127,8 @@ pub(crate) fn check_pair<
     let taker = to as usize;
     first_refusal(&[
         (!b.sound(), Refusal::Unsound),
-        (SPACES <= giver || SPACES <= taker, Refusal::NoSpace),
-        (!b.is_live(giver) || !b.is_live(taker), Refusal::NotLive),
+        ((SPACES <= giver) | (SPACES <= taker), Refusal::NoSpace),
+        (!b.is_live(giver) | !b.is_live(taker), Refusal::NotLive),
         (bad_rights(rights), Refusal::BadRights),
     ])?;
     let given = b
