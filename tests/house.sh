@@ -205,6 +205,24 @@ F
 refused contracts.py "board::shape::u32::from has no contract"
 
 with board/src/shape.rt <<'F'
+pub fn hollow(bytes: &mut [u8]) -> u8
+    ensures { result ≡ less_of 1 bytes.entry }
+{
+    0
+}
+F
+refused contracts.py "board::shape::hollow does not determine what it leaves in bytes"
+
+with board/src/shape.rt <<'F'
+pub fn hollow(bytes: &[u8]) -> Option<&[u8]>
+    ensures { range_meant result ≡ less_of 1 bytes.now }
+{
+    None
+}
+F
+refused contracts.py "board::shape::hollow does not determine what it hands back by reference"
+
+with board/src/shape.rt <<'F'
 struct Reading<'a> {
     bytes: &'a mut [u8],
 }
@@ -228,6 +246,23 @@ refused contracts.py "calls::flush_range::flush_range does not determine its res
 copy
 sed -i 's/outcome result (tables b.new)/outcome result (tables b.old)/' "$work/text/crates/calls/src/create.rt"
 refused contracts.py "calls::create::create has a contract of a form that is not known"
+
+# ---- contracts.py: a struct that holds what was lent
+with text/src/write.rt <<'F'
+pub fn hollow<'a>(buffer: &'a mut [u8], other: &mut [u8]) -> Writer<'a>
+    ensures { result ≡ starting buffer.entry }
+{
+    Writer::new(buffer)
+}
+F
+refused contracts.py "text::write::hollow does not determine what it leaves in other"
+
+with text/src/write.rt <<'F'
+pub struct Other<'a> {
+    bytes: &'a mut [u8],
+}
+F
+refused contracts.py "write.rt: a struct that may hold a reference, for which no view is known"
 
 # ---- contracts.py: the theorem of a view
 copy

@@ -1,13 +1,16 @@
 #!/usr/bin/env python3
 """contracts.py [--check]: docs/CONTRACTS.md, the list of every public function with what determines it.
 
-A contract determines its function where what comes back (the result, and every byte that was lent for writing, at exit) stands
+A contract determines its function where what comes back (the result, and every byte and board that was lent for writing, at exit) stands
 alone, or in a view that loses nothing, on one side, and a definition over the arguments on the other. This program knows the views
 and the theorem that shows of each that it loses nothing; it looks whether that theorem stands where it says. An error is
 
 - a public function with no contract, with one of another form, or with a `ghost` value;
 - a definition that speaks of the result, or of what was lent as the call leaves it;
-- a result, a field of a result, or a parameter lent for writing, that no clause determines.
+- a result, a field of a result, or a parameter lent for writing, that no clause determines; a result that holds references, where its
+  contract is not an equation of all of it.
+
+What the ghost of a trait is given is the contract of the trait's function.
 
 --check compares only.
 """
@@ -55,7 +58,7 @@ RECORDS = {
 ITSELF, EXIT, BOARD = 'the equation itself', '≡', 'tables'
 # the words of a clause; a reference that the result takes along is spoken of as it came in
 RESULT, WHEN = 'result', {'now': 'entry', 'old': 'entry', 'new': 'exit'}
-TAKEN = r'(\w+)\.entry\b'
+TAKEN = r'(\w+)\.entry\b(?!\.)'
 # the sizes of a model, and how the page says them
 SIZES = '(sizes SPACES PAGES PLACES)'
 PARTS = {RESULT: 'r', SIZES: 'sizes', '[]': 'none'}
@@ -117,14 +120,15 @@ def equation(head, left):
     return ({found[0][1]} if len(left) == 1 and found[0][0] == 'exit' else None), EXIT
 
 
-def determined(head, clause, lent):
-    """What one clause determines, the definition and the view; None where its form is not known."""
+def determined(head, clause, lent, holds):
+    """What one clause determines, the definition and the view; None where its form is not known. A result that holds references may take
+    along what was lent, and is then determined with it."""
     fact = parts(clause)
     if fact.count('≡') == 1:
         at = fact.index('≡')
         what, view = equation(head, fact[:at])
         definition = ' '.join(fact[at + 1:])
-        if view == ITSELF:
+        if view == ITSELF and holds:
             what = what | set(re.findall(TAKEN, definition))
     elif fact[0] in RECORDS:
         view = fact[0]
@@ -208,7 +212,12 @@ def lent_by(head, holders):
             yield name.split()[-1]
 
 
-def missing(crate, head, lent, found, holders):
+def holds_some(head, holders):
+    """Whether the result may hold a reference."""
+    return '&' in head.result or bool(holders & set(re.findall(r'\w+', head.result.replace('Self', head.owner))))
+
+
+def missing(crate, head, lent, found, holds):
     """What comes back and is determined by no clause."""
     what = set().union(*(w for w, _, _ in found))
     given = {w[1:] for w in what if w.startswith('.')}
@@ -218,20 +227,19 @@ def missing(crate, head, lent, found, holders):
     elif head.result and 'r' not in what:
         yield from (f'the field {f} of its result' for f in fields(crate, head.result) if f not in given) if given else ['its result']
     yield from (f'what it leaves in {p}' for p in lent if p not in what)
-    holds = '&' in head.result or holders & set(re.findall(r'\w+', head.result.replace('Self', head.owner)))
     if holds and ITSELF not in [view for _, _, view in found]:
         yield 'what it hands back by reference'
 
 
 def judged(crate, head, holders):
     """The rows of one public function, and what is wrong with its contract."""
-    lent = list(lent_by(head, holders))
-    found = [determined(head, clause, lent) if word == 'ensures' else None for word, clause in clauses(head) if word != 'requires']
+    lent, holds = list(lent_by(head, holders)), holds_some(head, holders)
+    found = [determined(head, clause, lent, holds) if word == 'ensures' else None for word, clause in clauses(head) if word != 'requires']
     if not found:
         return [], ['has no contract']
     if None in found:
         return [], ['has a contract of a form that is not known']
-    return found, [f'does not determine {m}' for m in missing(crate, head, lent, found, holders)]
+    return found, [f'does not determine {m}' for m in missing(crate, head, lent, found, holds)]
 
 
 def full_name(crate, module, head):
@@ -280,8 +288,8 @@ def page():
         '# What determines each public function',
         '',
         'Made by `tools/contracts.py`, and checked by `./test`. What comes back from a function is its result, and every byte and every board',
-        'that it was lent for writing. The contract sets it equal to a definition over the arguments: as it is, or in a view. By the theorem of the',
-        'last column two results that meet the contract are one. Where it says \'the equation itself\', the contract is `result ≡` the',
+        'that it was lent for writing. The contract sets it equal to a definition over the arguments: as it is, or in a view. By the theorems of',
+        'the last column two results that meet the contract are one. Where it says \'the equation itself\', the contract is `result ≡` the',
         'definition, and there is nothing to show. No public function has a `requires`, so this holds for every input.',
         '',
         'In the crates of both models `sizes` are the sizes that the types are made with, so a row there holds of both models, as its theorem',

@@ -29,7 +29,7 @@ NO_SIZES = [
     ('crates/script/specs/Script.antt', r'refuse st 16|input_limit = 65536', 'a number of the table; the length of a script (01)'),
     ('crates/script/src/lib.rt', r'INPUT_LIMIT: usize = 65536|FOR_THE_END: usize = 32', 'the same length; the bytes of two lines'),
     ('crates/script/*/Bound.antt crates/listing*/proofs/*.antt', r'(\+|≤) (16|32)\b', 'the bytes of a listing\'s first and last line'),
-    ('crates/text*/proofs/*.antt', r'\b32 ∷|spare 8|16 ≤ length', 'the byte of a blank; digits; the shortest line'),
+    ('crates/text*/proofs/*.antt', r'\b32 ∷|≡ 32|spare 8|16 ≤ length', 'the byte of a blank; digits; the shortest line'),
     ('crates/lend_basics/proofs/Rights.antt', r'\b8\b', 'three rights, on both models: their sums are below 8'),
     ('crates/lend_laws/* crates/lend_lending/* crates/lend_summary/* crates/lend_demands/*', r'< 8\b', 'the same'),
     ('crates/lend_code/proofs/Ranges.antt', r'< 64|\^ 64|k 64', 'the bits of a word of the machine'),

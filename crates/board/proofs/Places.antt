@@ -2,7 +2,7 @@
 use mathlib.Core.Path.{◌≡◌, refl, sym, ◌∙◌}
 use mathlib.Core.Bool.{Bool, true, false, ◌&&◌, ◌||◌, cond}
 use mathlib.Core.List.{List}
-use Prim.Native.Nat.{ℕ, ◌≤◌, ◌<◌}
+use Prim.Native.Nat.{ℕ, ◌<◌}
 use native.Mathlib.Omega.{arith}
 use lib.Dec.{eqb, ltb}
 use lib.ListN.{length, get_or}
@@ -26,8 +26,8 @@ found_is end k i found e h = rw e (go (ltb k end) refl)
     go true t = refl
     go false t = let l = ltb-false k end t in sym (ne_eqb k i (λ p. omega arith))
 
--- `==` of two places, in another order
-four : (a b c d : Bool) → (a && (b && (c && d))) ≡ (a && b && c && d)
+-- four tests, in another order
+pub four : (a b c d : Bool) → (a && (b && (c && d))) ≡ (a && b && c && d)
 four true true c d = refl
 four true false c d = refl
 four false b c d = refl

@@ -7,11 +7,9 @@ use Rattle.lend.specs.declared.Place.{Place}
 use Rattle.lend.specs.Sizes.{Sizes, slot_count}
 use Rattle.lend.specs.Lists.{tabulate}
 use Rattle.lend.specs.Slots.{slot_at}
-use Rattle.lend.specs.Tables.{Tables}
 use Rattle.lend.specs.Line.{frame_of}
 use Rattle.lend.specs.Summary.{summary_of}
 use Rattle.lend.specs.Cache.{place_at, place_for, cached}
-use Rattle.lend.specs.SoundTest.{pages_test, sound_test}
 use Rattle.lend_code.specs.Inner.{rights_of}
 use Rattle.board.specs.declared.sound.Pages.{Pages}
 

@@ -1,5 +1,5 @@
 -- A range of the code as a range of the rules.
-use Rattle.std.specs.Prelude.{ℕ, ◌-◌, ◌%◌, ◌≡◌, refl, ◌&&◌, cond, leb}
+use Rattle.std.specs.Prelude.{ℕ, ◌≡◌, refl, ◌&&◌, cond, leb}
 use Rattle.std.specs.declared.option.Option.{Option}
 use Rattle.std.specs.declared.option.Option.TheVariants.{Some, None}
 use Rattle.lend.specs.Sizes.{Sizes}
@@ -18,10 +18,6 @@ range_back (rules.Pages first count) = Some (record { first = first; count = cou
 pub range_back_meant : (r : Option Range) → range_back (range_meant r) ≡ r
 range_back_meant None = refl
 range_back_meant (Some r) = refl
-
--- a part where it is one
-abbrev pub part_meant : Sizes → ℕ → ℕ → rules.Range
-part_meant z base size = cond (rules.is_part z base size) (rules.Pages (base - base % rules.part_pages size) (rules.part_pages size)) rules.Invalid
 
 -- how many pages a part of this size has, where a part has that size
 abbrev pub part_found : Sizes → ℕ → Option ℕ

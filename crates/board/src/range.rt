@@ -2,7 +2,7 @@
 ghost use Rattle.std.specs.Prelude.{◌≡◌};
 ghost use Rattle.lend.specs.Ranges.{range_of};
 ghost use Rattle.board.specs.Model.{sizes};
-ghost use Rattle.board.specs.Range.{range_meant, part_found, part_meant};
+ghost use Rattle.board.specs.Range.{range_meant, part_found};
 
 use crate::Shape;
 
@@ -22,11 +22,11 @@ impl<const SPACES: usize, const PAGES: usize, const SLOTS: usize, const PLACES: 
     SLOTS,
     PLACES,
 > {
-    // How many pages a part of the size has, where a part has that size: two to a power, which is more than PAGES where it doesn't fit a u32.
+    // How many pages a part of the size has, where a part has that size. What no u32 holds is more than PAGES.
     fn part_pages(self, size: u32) -> Option<u32>
         ensures { result ≡ part_found (sizes SPACES PAGES PLACES) size }
     {
-        let count = 1u32.checked_shl(size.checked_sub(ONE_PAGE)?)?;
+        let count = 2u32.checked_pow(size.checked_sub(ONE_PAGE)?)?;
         if PAGES < count as usize {
             return None;
         }
@@ -34,6 +34,7 @@ impl<const SPACES: usize, const PAGES: usize, const SLOTS: usize, const PLACES: 
     }
 
     // Nil, complete, or a part, whose base is rounded down to a multiple of its pages; all else is invalid.
+    #[tactic(auto, unfolding(lend::specs::Ranges::range_of))]
     pub fn range_of(self, base: u32, size: u32) -> Option<Range>
         ensures { range_meant result ≡ range_of (sizes SPACES PAGES PLACES) base size }
     {
@@ -43,21 +44,16 @@ impl<const SPACES: usize, const PAGES: usize, const SLOTS: usize, const PLACES: 
                 first: 0,
                 count: PAGES as u32,
             }),
-            _ => self.part(base, size),
+            _ => {
+                let count = self.part_pages(size)?;
+                if PAGES <= base as usize {
+                    return None;
+                }
+                Some(Range {
+                    first: base - base % count,
+                    count,
+                })
+            }
         }
-    }
-
-    // A part, whose base is rounded down to a multiple of its pages, where it has so many pages and starts at one of them.
-    fn part(self, base: u32, size: u32) -> Option<Range>
-        ensures { range_meant result ≡ part_meant (sizes SPACES PAGES PLACES) base size }
-    {
-        let count = self.part_pages(size)?;
-        if PAGES <= base as usize {
-            return None;
-        }
-        Some(Range {
-            first: base - base % count,
-            count,
-        })
     }
 }

@@ -143,7 +143,9 @@ impl<const SPACES: usize, const PAGES: usize, const SLOTS: usize, const PLACES: 
     pub fn check(&self) -> Result<Pages<PAGES, SLOTS>, Refusal>
         ensures { result ≡ cond (sound_test (sizes SPACES PAGES PLACES) (tables self.now)) (Ok (pages_of (sizes SPACES PAGES PLACES) self.now.slots)) (Err Unsound) }
     {
-        let pages = self.examine().ok_or(Refusal::Unsound)?;
+        let Some(pages) = self.examine() else {
+            return Err(Refusal::Unsound);
+        };
         if self.places_fit(&pages.rights, &pages.frames)
             && usize::from(self.cache.next) < PLACES
             && self.summary == pages.counts

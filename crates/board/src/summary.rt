@@ -10,6 +10,7 @@ use crate::{Board, Shape};
 use lend::Count;
 
 // One page more, of these rights.
+#[tactic(auto, unfolding(lend_code::specs::Inner::counted_in16))]
 fn counted(count: Count, rights: u8) -> Count
     ensures { result ≡ counted_in16 rights count }
 {

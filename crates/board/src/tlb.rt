@@ -98,11 +98,10 @@ impl<const SPACES: usize, const PAGES: usize, const SLOTS: usize, const PLACES: 
     pub fn drop_lost(&mut self, before: &[u8; SLOTS], after: &[u8; SLOTS])
         ensures { tables self.new ≡ with_places (tables self.old) (dropped_where (sizes SPACES PAGES PLACES) (lost_in before.now after.now) self.old.cache.places) }
     {
-        for i in 0..PLACES {
-            let place = self.cache.places[i];
+        for place in &mut self.cache.places {
             let k = self.shape.key(place.space, place.page);
             if k < SLOTS && !lend::within(before[k], after[k]) {
-                self.cache.places[i] = Place::EMPTY;
+                *place = Place::EMPTY;
             }
         }
     }

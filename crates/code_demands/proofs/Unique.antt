@@ -51,39 +51,39 @@ one_value v w = v ∙ sym w
 
 -- ── answers ──────────────────────────────────────────────────────────────
 -- the answer that a number and a value make: a number other than 0 is a refusal's
-answer : {A : Type 0} → ℕ → A → Result A Refusal
+pub answer : {A : Type 0} → ℕ → A → Result A Refusal
 answer n x = cond (eqb n 0) (Ok x) (Err (refusal_of n))
 
 refused_answer : {A : Type 0} (r : Refusal) (x : A) → answer (number_of r) x ≡ Err r
 refused_answer r x = rw (refusal_not_done r) (ap Err (refusal_of_number r))
 
-back_done : (r : Result ℕ Refusal) → answer (answer_of r) (emptied_of r) ≡ r
-back_done (Ok n) = refl
-back_done (Err r) = refused_answer r 0
+pub answer_of_outcome : (r : Result ℕ Refusal) → answer (answer_of r) (emptied_of r) ≡ r
+answer_of_outcome (Ok n) = refl
+answer_of_outcome (Err r) = refused_answer r 0
 
 -- a call whose contract is `outcome r (tables b) ≡ ..`: the answer, and all of the board after it
 pub one_answer : {meaning : Outcome} {r s : Result ℕ Refusal} {t u : Tables} → outcome r t ≡ meaning → outcome s u ≡ meaning → (r ≡ s) × (t ≡ u)
 one_answer {r = r} {s = s} v w =
     let e = v ∙ sym w in
-    (sym (back_done r) ∙ (ap (λ (o : Outcome). answer o.reply.number o.reply.emptied) e ∙ back_done s), ap (λ (o : Outcome). o.state.board) e)
+    (sym (answer_of_outcome r) ∙ (ap (λ (o : Outcome). answer o.reply.number o.reply.emptied) e ∙ answer_of_outcome s), ap (λ (o : Outcome). o.state.board) e)
 
 -- a call over a range, whose contract gives what the first checks say and `range_outcome z r (tables b) ≡ ..`
-range_back_of : ℕ → RangeOutcome → Result Progress Refusal
+pub range_back_of : ℕ → RangeOutcome → Result Progress Refusal
 range_back_of first o = answer first (record { done = o.done; refused = cond (eqb o.number 0) None (Some (o.offset, refusal_of o.number)); emptied = o.emptied })
 
-range_backs : (z : Sizes) (r : Result Progress Refusal) (t : Tables) → range_back_of (answer_of r) (range_outcome z r t) ≡ r
-range_backs z (Ok p) t = ap (λ (x : Option (ℕ × Refusal)). Ok (record { done = p.done; refused = x; emptied = p.emptied })) (at p.refused)
+pub range_answer_of_range_outcome : (z : Sizes) (r : Result Progress Refusal) (t : Tables) → range_back_of (answer_of r) (range_outcome z r t) ≡ r
+range_answer_of_range_outcome z (Ok p) t = ap (λ (x : Option (ℕ × Refusal)). Ok (record { done = p.done; refused = x; emptied = p.emptied })) (at p.refused)
   where
     at : (x : Option (ℕ × Refusal)) → cond (eqb (refused_number x) 0) None (Some (refused_offset z.pages x, refusal_of (refused_number x))) ≡ x
     at None = refl
     at (Some y) = rw (refusal_not_done y.1) (ap (λ (r : Refusal). Some (y.0, r)) (refusal_of_number y.1))
-range_backs z (Err r) t = refused_answer r _
+range_answer_of_range_outcome z (Err r) t = refused_answer r _
 
 pub one_range_answer : {z : Sizes} {first : ℕ} {meaning : RangeOutcome} {r s : Result Progress Refusal} {t u : Tables}
     → answer_of r ≡ first → range_outcome z r t ≡ meaning → answer_of s ≡ first → range_outcome z s u ≡ meaning → (r ≡ s) × (t ≡ u)
 one_range_answer {z = z} {r = r} {s = s} {t = t} {u = u} f v g w =
     let e = v ∙ sym w in (
-      sym (range_backs z r t) ∙ ((λ i. range_back_of ((f ∙ sym g) i) (e i)) ∙ range_backs z s u),
+      sym (range_answer_of_range_outcome z r t) ∙ ((λ i. range_back_of ((f ∙ sym g) i) (e i)) ∙ range_answer_of_range_outcome z s u),
       ap (λ (x : State). x.board) (range_state z r t ∙ (ap (λ (o : RangeOutcome). o.state) e ∙ sym (range_state z s u))),
     )
 
@@ -92,24 +92,24 @@ pub one_range : {meaning : rules.Range} {r s : Option Range} → range_meant r �
 one_range = one_result range_meant range_back range_back_meant
 
 -- a call whose contract is `translated r (tables b) ≡ ..`
-translation_back : Outcome → Result Translation Refusal
+pub translation_back : Outcome → Result Translation Refusal
 translation_back o = answer o.reply.number (record { address = o.reply.address; hit = o.reply.hit; links = o.reply.links })
 
-translation_backs : (r : Result Translation Refusal) (t : Tables) → translation_back (translated r t) ≡ r
-translation_backs (Ok x) t = refl
-translation_backs (Err r) t = refused_answer r _
+pub translated_of_translated : (r : Result Translation Refusal) (t : Tables) → translation_back (translated r t) ≡ r
+translated_of_translated (Ok x) t = refl
+translated_of_translated (Err r) t = refused_answer r _
 
 pub one_translation : {meaning : Outcome} {r s : Result Translation Refusal} {t u : Tables} → translated r t ≡ meaning → translated s u ≡ meaning → (r ≡ s) × (t ≡ u)
 one_translation {r = r} {s = s} {t = t} {u = u} v w =
     let e = v ∙ sym w in
-    (sym (translation_backs r t) ∙ (ap translation_back e ∙ translation_backs s u), ap (λ (o : Outcome). o.state.board) e)
+    (sym (translated_of_translated r t) ∙ (ap translation_back e ∙ translated_of_translated s u), ap (λ (o : Outcome). o.state.board) e)
 
 -- a look at a page, whose contract is `seen r (tables b) ≡ ..`
-seen_back : Look → Seen
+pub seen_back : Look → Seen
 seen_back l = record { frame = l.frame; followed = cond l.hit None (Some l.links) }
 
-seen_backs : (s : Seen) (t : Tables) → seen_back (seen s t) ≡ s
-seen_backs s t = ap (λ (x : Option ℕ). record { frame = s.frame; followed = x }) (at s.followed)
+pub seen_of_seen : (s : Seen) (t : Tables) → seen_back (seen s t) ≡ s
+seen_of_seen s t = ap (λ (x : Option ℕ). record { frame = s.frame; followed = x }) (at s.followed)
   where
     at : (x : Option ℕ) → cond (was_hit x) None (Some (links_followed x)) ≡ x
     at None = refl
@@ -117,28 +117,32 @@ seen_backs s t = ap (λ (x : Option ℕ). record { frame = s.frame; followed = x
 
 pub one_look : {meaning : Look} {r s : Seen} {t u : Tables} → seen r t ≡ meaning → seen s u ≡ meaning → (r ≡ s) × (t ≡ u)
 one_look {r = r} {s = s} {t = t} {u = u} v w =
-    let e = v ∙ sym w in (sym (seen_backs r t) ∙ (ap seen_back e ∙ seen_backs s u), ap (λ (l : Look). l.board) e)
+    let e = v ∙ sym w in (sym (seen_of_seen r t) ∙ (ap seen_back e ∙ seen_of_seen s u), ap (λ (l : Look). l.board) e)
 
 -- load: the memory is lent for reading and is the same
-load_backs : (r : Result ℕ Refusal) → answer (answer_of r) (byte_of r) ≡ r
-load_backs (Ok n) = refl
-load_backs (Err r) = refused_answer r 0
+pub loaded_of_loaded : (r : Result ℕ Refusal) → answer (answer_of r) (byte_of r) ≡ r
+loaded_of_loaded (Ok n) = refl
+loaded_of_loaded (Err r) = refused_answer r 0
 
 pub one_load : {meaning : Outcome} {r s : Result ℕ Refusal} {t u : Tables} {m : List ℕ} → loaded r t m ≡ meaning → loaded s u m ≡ meaning → (r ≡ s) × (t ≡ u)
 one_load {r = r} {s = s} v w =
     let e = v ∙ sym w in
-    (sym (load_backs r) ∙ (ap (λ (o : Outcome). answer o.reply.number o.reply.byte) e ∙ load_backs s), ap (λ (o : Outcome). o.state.board) e)
+    (sym (loaded_of_loaded r) ∙ (ap (λ (o : Outcome). answer o.reply.number o.reply.byte) e ∙ loaded_of_loaded s), ap (λ (o : Outcome). o.state.board) e)
 
 -- store: the answer, the board, and every byte of memory as the call leaves it
-store_backs : (r : Result (Unit {0}) Refusal) → answer (answer_of r) tt ≡ r
-store_backs (Ok x) = refl
-store_backs (Err r) = refused_answer r tt
+pub stored_of_stored : (r : Result (Unit {0}) Refusal) → answer (answer_of r) tt ≡ r
+stored_of_stored (Ok x) = refl
+stored_of_stored (Err r) = refused_answer r tt
+
+-- the row of checks, which hands back no value
+pub one_check : {meaning : ℕ} {r s : Result (Unit {0}) Refusal} → answer_of r ≡ meaning → answer_of s ≡ meaning → r ≡ s
+one_check {r = r} {s = s} v w = sym (stored_of_stored r) ∙ (ap (λ (n : ℕ). answer n (tt {0})) (v ∙ sym w) ∙ stored_of_stored s)
 
 pub one_store : {meaning : Outcome} {r s : Result (Unit {0}) Refusal} {t u : Tables} {m n : List ℕ} → stored r t m ≡ meaning → stored s u n ≡ meaning
     → (r ≡ s) × (t ≡ u) × (m ≡ n)
 one_store {r = r} {s = s} v w =
     let e = v ∙ sym w in (
-      sym (store_backs r) ∙ (ap (λ (o : Outcome). answer o.reply.number (tt {0})) e ∙ store_backs s),
+      sym (stored_of_stored r) ∙ (ap (λ (o : Outcome). answer o.reply.number (tt {0})) e ∙ stored_of_stored s),
       ap (λ (o : Outcome). o.state.board) e,
       ap (λ (o : Outcome). o.state.memory) e,
     )

@@ -1,18 +1,15 @@
--- What is counted by adding a test as a number: numbers that pass, what two arrays of rights lost, and a count of 16 bits.
-use mathlib.Core.Path.{◌≡◌, refl, sym, ◌∙◌}
-use mathlib.Core.Bool.{Bool, true, false, not, ◌&&◌, cond}
+-- What is counted by adding a test as a number: numbers that pass, and what two arrays of rights lost.
+use mathlib.Core.Path.{◌≡◌, sym}
+use mathlib.Core.Bool.{Bool, true, false, not, ◌&&◌}
 use mathlib.Core.List.{List}
-use Prim.Native.Nat.{ℕ, ◌+◌, ◌≤◌, ◌<◌}
-use native.Mathlib.Nat.{add-zero, min-eq_left, min-eq_right}
+use Prim.Native.Nat.{ℕ, ◌+◌, ◌≤◌}
+use native.Mathlib.Nat.{add-zero}
 use native.Mathlib.Omega.{arith}
-use lib.Dec.{eqb, ltb}
+use lib.Dec.{eqb}
 use lib.ListN.{get_or}
-use Rattle.std.specs.Prelude.{min}
 use mir.Val.{bool_byte}
-use borrow.Author.Tests.{ltb-true, ltb-false}
 use Rattle.lend.specs.Rights.{read_right, write_right, execute_right, within}
 use Rattle.lend_basics.proofs.Loops.{Counted, counted_yes, counted_no}
-use Rattle.lend_code.specs.Inner.{more_in16}
 use Rattle.lend_code.proofs.Summary.{Losing}
 
 -- the number m is that of a test b
@@ -35,18 +32,6 @@ module _ {m : ℕ} (b : Bool) (is : m ≡ bool_byte b) where
       go : (u : Bool) → m ≡ bool_byte u → u ≡ t k → Counted t (n + m) (k + 1)
       go true i f = rw i (counted_yes t n k c (sym f))
       go false i f = rw (i, add-zero n) (counted_no t n k c (sym f))
-
-  -- one more where the test holds, and no more than 16 bits hold
-  pub saturated : (t : Bool) (n s : ℕ) → n < 65536 → s ≡ min (n + m) 65535 → b ≡ t → s ≡ more_in16 t n
-  saturated t n s h e f = go b is f
-    where
-      room : (u : Bool) → ltb n 65535 ≡ u → s ≡ min (n + 1) 65535 → s ≡ cond u (n + 1) n
-      room true l a = let x = ltb-true n 65535 l in a ∙ min-eq_left (omega arith)
-      room false l a = let x = ltb-false n 65535 l in a ∙ (min-eq_right (omega arith) ∙ omega arith)
-
-      go : (u : Bool) → m ≡ bool_byte u → u ≡ t → s ≡ more_in16 t n
-      go true i q = rw (← q) (room (ltb n 65535) refl (rw i at e))
-      go false i q = rw (← q) (let x : s ≡ min n 65535 = rw (i, add-zero n) at e in x ∙ min-eq_left (omega arith))
 
 -- one page more
 pub losing_turn : (before after : List ℕ) (held read write execute k : ℕ) → Losing before after held read write execute k

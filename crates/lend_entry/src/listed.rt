@@ -20,7 +20,5 @@ pub extern "C" fn lend_entry_write_listing(image: &[u8], text: &mut [u8], out: &
 pub extern "C" fn lend_entry_read_listing(image: &mut [u8], text: &[u8], out: &mut [u32; 4]) -> u32
     ensures { left result image.new [] out.new ≡ read_answer sizes text.now image.old }
 {
-    *out = [0, 0, 0, 0];
-    if image.len() != IMAGE {
     listed::read_listing(ENTRY, image, text, out)
 }

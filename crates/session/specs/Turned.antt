@@ -1,7 +1,7 @@
 -- What a line does on a board, as a turn of the script: what it says, and the board with no memory beside it.
 use Rattle.std.specs.declared.result.Result.{Result}
 use Rattle.std.specs.declared.result.Result.TheVariants.{Ok, Err}
-use Rattle.std.specs.Prelude.{false}
+use Rattle.std.specs.Prelude.{◌≡◌, refl, false}
 use Rattle.lend.specs.declared.refusal.Refusal.{Refusal}
 use Rattle.lend.specs.Refusals.{number_of}
 use Rattle.lend.specs.Tables.{Tables, alone}
@@ -12,6 +12,10 @@ use Rattle.script.specs.Script.{Turn}
 
 abbrev pub turned : Said → Tables → Turn
 turned said t = record { said = said; state = alone t }
+
+-- and back: all is in the turn
+pub turned_of_turned : (said : Said) (t : Tables) → ((turned said t).said ≡ said) × ((turned said t).state.board ≡ t)
+turned_of_turned said t = (refl, refl)
 
 -- what a translate says
 abbrev pub found : Result Translation Refusal → Said

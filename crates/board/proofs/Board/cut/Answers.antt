@@ -1,17 +1,11 @@
 -- `cut` meets its contract: the goals that are left, from the invariant.
 use Rattle.board.proofs as own
 use Rattle.board.specs as spec
-use mathlib.Core.Path.{◌≡◌, refl, ap, ◌∙◌}
-use mathlib.Core.List.{List}
-use Prim.Native.Nat.{ℕ, ◌≤◌, ◌*◌}
+use mathlib.Core.Path.{◌≡◌, ap, ◌∙◌}
 use lib.ListN.{length, set}
 use native.Mathlib.Omega.{arith}
 use borrow.Author.Rules.{rules}
-use Rattle.lend.specs.declared.Slot.{Slot}
-use Rattle.lend.specs.Slots.{slot_at, with_rights}
 use Rattle.lend.specs.Tables.{Tables}
-use Rattle.lend_code.specs.Inner.{left_of, has}
-use Rattle.lend_basics.proofs.Loops.{changed_none, changed_more}
 use Rattle.lend_basics.proofs.Lists.{length_unmap}
 use Rattle.lend_code.proofs.Cuts.{cutting_turn, cutting_all}
 use spec.Board.{tables, with_slots}

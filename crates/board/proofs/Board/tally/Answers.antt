@@ -8,7 +8,7 @@ use native.Mathlib.Omega.{arith}
 use borrow.Author.Rules.{rules}
 use Rattle.lend.specs.Summary.{count_at}
 use Rattle.lend_basics.proofs.Lists.{length_unmap}
-use Rattle.lend_code.specs.Inner.{rights_of, counts_at, counted_in16}
+use Rattle.lend_code.specs.Inner.{counts_at, counted_in16}
 use Rattle.lend_code.proofs.Columns.{rights_at}
 use Rattle.lend_code.proofs.Summary.{tallied_none, tallied_more, tallied_skip, tallied_all}
 use spec.Model.{sizes}

@@ -5,12 +5,13 @@ use Rattle.std.specs.Prelude.{option_map}
 use mathlib.Core.Path.{ap, ◌∙◌}
 use spec.declared.Request.TheVariants.{Map}
 use spec.Request.{of_five, map_in}
+use own.Reading.{exactly_all}
 use own.forms.map.Goals as goal
 
 pub returns-in_err-from : goal.returns-in_err-from
 unfolding map_in
-returns-in_err-from c = c.from_residual.ensures ∙ ap (option_map (of_five Map)) c.in_err-from.ensures
+returns-in_err-from c = c.from_residual.ensures ∙ ap (option_map (of_five Map)) (c.in_err-from.ensures ∙ exactly_all _ _)
 
 pub returns : goal.returns
 unfolding map_in
-returns c = ap (option_map (of_five Map)) c.in_ok-from.ensures
+returns c = ap (option_map (of_five Map)) (c.in_ok-from.ensures ∙ exactly_all _ _)

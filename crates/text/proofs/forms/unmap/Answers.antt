@@ -5,12 +5,13 @@ use Rattle.std.specs.Prelude.{option_map}
 use mathlib.Core.Path.{ap, ◌∙◌}
 use spec.declared.Request.TheVariants.{Unmap}
 use spec.Request.{of_three, unmap_in}
+use own.Reading.{exactly_all}
 use own.forms.unmap.Goals as goal
 
 pub returns-in_err-space : goal.returns-in_err-space
 unfolding unmap_in
-returns-in_err-space c = c.from_residual.ensures ∙ ap (option_map (of_three Unmap)) c.in_err-space.ensures
+returns-in_err-space c = c.from_residual.ensures ∙ ap (option_map (of_three Unmap)) (c.in_err-space.ensures ∙ exactly_all _ _)
 
 pub returns : goal.returns
 unfolding unmap_in
-returns c = ap (option_map (of_three Unmap)) c.in_ok-space.ensures
+returns c = ap (option_map (of_three Unmap)) (c.in_ok-space.ensures ∙ exactly_all _ _)

@@ -1,7 +1,7 @@
 -- `number` meets its contract: the goals that are left.
 use Rattle.text.proofs as own
 use Rattle.text.specs as spec
-use spec.Fields.{left}
+use spec.Fields.{read_off}
 use own.Reading.{number_none, number_other, number_first, number_next, ends_zero, ends_five, ends_none, ends_other, digit_small}
 use Rattle.std.specs.Prelude.{ℕ, List, ◌≤◌, Some}
 use mathlib.Core.Path.{sym, ap, ◌∙◌}
@@ -11,10 +11,10 @@ use own.number.number.Goals as goal
 use own.number.number.Goals.{then-loop-value-test+else-value-le9999, else-loop-value-test, then-loop-value-test+then-value-le9999+in_default, then-loop-value-test+then-value-le9999+in-Some+in_default-digit}
 
 pub returns-in_err-first : goal.returns-in_err-first
-returns-in_err-first c = ap left c.from_residual.ensures ∙ number_none _ c.in_err-first.ensures.cases
+returns-in_err-first c = ap read_off c.from_residual.ensures ∙ number_none _ c.in_err-first.ensures.cases
 
 pub returns-in_err-value : goal.returns-in_err-value
-returns-in_err-value c = ap left c.from_residual-in_err-value.ensures ∙ number_other c.in_ok-first.ensures.cases.0 c.in_err-value.ensures
+returns-in_err-value c = ap read_off c.from_residual-in_err-value.ensures ∙ number_other c.in_ok-first.ensures.cases.0 c.in_err-value.ensures
 
 pub loop-value-init : goal.loop-value-init
 loop-value-init c = number_first c.in_ok-first.ensures.cases.0 c.in_ok-value.ensures

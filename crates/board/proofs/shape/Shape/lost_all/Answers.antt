@@ -1,6 +1,5 @@
 -- `lost_all` meets its contract: the goals that are left, from the invariant.
 use Rattle.board.proofs as own
-use mathlib.Core.Path.{◌∙◌}
 use native.Mathlib.Omega.{arith}
 use Rattle.lend_basics.proofs.Loops.{counted_none, counted_all}
 use Rattle.lend_code.specs.Inner.{lost_all}

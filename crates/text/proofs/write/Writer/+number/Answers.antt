@@ -7,6 +7,6 @@ use own.write.Writer.+number.Goals as goal
 
 pub returns : goal.returns
 returns t c = elim c.if-n-ge10.branch [
-  | then-n-ge10 w ↦ rw (c.byte.ensures, w.self-is, w.number.ensures) (writes_digits _ _ w.if-n-ge10.true (omega arith))
-  | else-n-ge10 w ↦ rw (c.byte.ensures, w.self-is) (writes_digit _ _ (omega (arith, w.if-n-ge10.false)))
+  | then-n-ge10 w ↦ rw (c.byte.ensures, w.self-is, w.number.ensures) (writes_digits _ c.args.n (omega (arith, w.if-n-ge10.true)) (omega arith))
+  | else-n-ge10 w ↦ rw (c.byte.ensures, w.self-is) (writes_digit _ c.args.n (omega (arith, w.if-n-ge10.false)))
 ]
