@@ -3,7 +3,7 @@ use Rattle.board_image.proofs as own
 use mathlib.Core.Path.{◌≡◌, refl, sym, ap, ◌∙◌}
 use native.Mathlib.Omega.{arith}
 use lib.ListN.{length}
-use Rattle.image.specs.Image.{image_bytes, no_board, board_from}
+use Rattle.image.specs.Image.{image_bytes, no_board}
 use Rattle.image.proofs.Image.{board_short}
 use Rattle.image.proofs.Parts.{cut_as, parts_cut, board_no_slots, board_no_live, board_of_parts}
 use Rattle.board.specs.Model.{sizes}
