@@ -33,7 +33,7 @@ NO_SIZES = [
     ('crates/lend_basics/proofs/Rights.antt', r'\b8\b', 'three rights, on both models: their sums are below 8'),
     ('crates/lend_laws/* crates/lend_lending/* crates/lend_summary/* crates/lend_demands/*', r'< 8\b', 'the same'),
     ('crates/lend_code/proofs/Ranges.antt', r'< 64|\^ 64|k 64', 'the bits of a word of the machine'),
-    ('crates/*image/*', r'\b8 \*|[</%] 8\b|count_bytes 8\b|\+ 8\]|\[u8; 8\]|\b256\b', 'the eight bytes of a count; the numbers of a byte'),
+    ('crates/*image/*', r'\b8 \*|[</%] 8\b|\b(count_bytes|first_chunks|cut_as|part) 8\b|\+ 8\]|\[u8; 8\]|\b256\b', 'the eight bytes of a count; the numbers of a byte'),
     ('crates/lend_models/specs/Witness.antt', r'tabulate 16 look|look 16', 'looks at the first pages, which both models have'),
     ('crates/examples_on_k/specs/*', r'\b\d+\b', 'the examples of 01, with the numbers that stand there'),
 ]
