@@ -21,11 +21,12 @@ MODELS = r'\b8,? 32,? 256,? 8\b|\b16,? 64,? 1024,? 16\b'
 NO_SIZES = [
     ('crates/board/src/shape.rt', rf'Shape<({MODELS})>|PAGE_BYTES: usize = 1024', 'the sizes of both models, said once in the code'),
     ('crates/both_demands/specs/Together.antt', rf'= Board ({MODELS})$', 'and once where a theorem speaks of a board of each'),
-    ('crates/board/specs/Model.antt', r'≤ (32|256|8192)$', 'what the types of the code can count'),
+    ('crates/board/specs/Model.antt', r'≤ (16|255|256|8192)$', 'what the types of the code can count'),
     ('*', r'"[^"]*"', 'what a text says is no number'),
     ('crates/lend/specs/Ranges.antt', r'\(8 when', 'a number of the document\'s table'),
     ('crates/lend/src/refusal.rt', r'Refusal::\w+ => \d+,', 'the same'),
     ('crates/lend/specs/Refusals.antt', r'^number_of \w+ = \d+$|eqb n \d+\)', 'the same'),
+    ('crates/calls/proofs/RangeChecks.antt', r'\b8\b', 'the same'),
     ('crates/script/specs/Script.antt', r'refuse st 16|input_limit = 65536', 'a number of the table; the length of a script (01)'),
     ('crates/script/src/lib.rt', r'INPUT_LIMIT: usize = 65536|FOR_THE_END: usize = 32', 'the same length; the bytes of two lines'),
     ('crates/script/*/Bound.antt crates/listing*/proofs/*.antt', r'(\+|≤) (16|32)\b', 'the bytes of a listing\'s first and last line'),

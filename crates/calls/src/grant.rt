@@ -45,14 +45,8 @@ pub(crate) fn grant_page<
     let kept = b.slots[giver].link;
     let taker_alone = b.shape.only(taker);
     let under_taker = b.line_has(&taker_alone);
-    check_lines(
-        b,
-        &under_taker,
-        giver,
-        source_of(b.shape, kept, giver),
-        taker,
-        asked,
-    )?;
+    let source = source_of(b.shape, kept, giver);
+    check_lines(b, &under_taker, giver, source, taker, asked)?;
     let before = b.rights();
     let frame = b.lookup(giver).frame;
     let granted = Slot {
