@@ -3,7 +3,7 @@ use mathlib.Core.Path.{◌≡◌, refl, sym, ap, ◌∙◌}
 use mathlib.Core.List.{List}
 use Prim.Native.Nat.{ℕ}
 use lib.Dec.{T}
-use Rattle.lend.specs.Tables.{Tables, State, alone}
+use Rattle.lend.specs.Tables.{State, alone}
 use Rattle.lend.specs.Sound.{Sound}
 use Rattle.lend.specs.Calls.{Call, Outcome, steps}
 use Rattle.lend_demands.specs.Demand3.{all_withdraw, end_board}
