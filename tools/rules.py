@@ -22,6 +22,8 @@ NO_SIZES = [
     ('crates/board/src/shape.rt', rf'Shape<({MODELS})>|PAGE_BYTES: usize = 1024', 'the sizes of both models, said once in the code'),
     ('crates/both_demands/specs/Together.antt', rf'= Board ({MODELS})$', 'and once where a theorem speaks of a board of each'),
     ('crates/board/specs/Model.antt', r'≤ (16|255|256|8192)$', 'what the types of the code can count'),
+    ('crates/code_demands/proofs/Models.antt', rf'(Shape|IsModel) ({MODELS})(?!\S| \d)', 'and where they are shown to be the rules\' sizes'),
+    ('crates/board/specs/Model.antt', r'≤ (32|256|8192)$', 'what the types of the code can count'),
     ('*', r'"[^"]*"', 'what a text says is no number'),
     ('crates/lend/specs/Ranges.antt', r'\(8 when', 'a number of the document\'s table'),
     ('crates/lend/src/refusal.rt', r'Refusal::\w+ => \d+,', 'the same'),
