@@ -1,5 +1,5 @@
 -- A run over the pages of a range, from its first checks to its outcome, over plain variables: it goes as the one of the rules does.
-use mathlib.Core.Path.{◌≡◌, refl, sym, ap, ◌∙◌}
+use mathlib.Core.Path.{◌≡◌, refl, ap, ◌∙◌}
 use mathlib.Core.List.{List}
 use Prim.Native.Nat.{ℕ, ◌+◌, ◌≤◌, ◌<◌}
 use native.Mathlib.Omega.{arith}
@@ -68,7 +68,7 @@ module _ {z : Sizes} {b : Tables} {c : RangeCall} {m : ℕ} where
         → outcome page u ≡ step z (alone t) call → (q : Progress) → q ≡ page_made p i page → Run z b c m q u (i + 1)
     run_more some-page h call is-call page u is-page q is-q =
         let on = going_more z some-page (alone b) c (run_outcome z p t) i run.so_far m run.pages h call is-call (outcome page u) is-page (run_outcome z q u)
-            (ap (λ (x : Progress). run_outcome z x u) is-q ∙ more z p i page t u (omega (arith, run.so_far.counted, run.pages, pages_small z c))) (i + 1) refl
+        (ap (λ (x : Progress). run_outcome z x u) is-q ∙ more z p i page t u (omega (arith, run.so_far.counted, run.pages, pages_small z c))) (i + 1) refl
         in record { passed = run.passed; pages = run.pages; so_far = on; sound = on.sound }
 
     -- and all of them

@@ -1,9 +1,6 @@
 // What refuses a call by the numbers that it names, in the order of the table.
 ghost use Rattle.std.specs.Prelude.{◌≡◌, IfOk, Some, cond};
-ghost use Rattle.lend.specs.Numbers.{first_number};
-ghost use Rattle.lend.specs.Tables.{alone};
 ghost use Rattle.lend.specs.Refusals.{answer_of};
-ghost use Rattle.lend.specs.Calls.{Create, Delete, cases, number as number_of};
 ghost use Rattle.lend.specs.Ranges.{range_of};
 ghost use Rattle.lend_code.specs.Inner.{page_checks};
 ghost use Rattle.lend_code.specs.Lending.{named_checks};
