@@ -93,6 +93,7 @@ fn read_from<const SPACES: usize, const PAGES: usize, const SLOTS: usize, const 
     let mut last: usize = 0;
     let mut count: usize = 0;
     let mut from = at;
+    // No `split` at newlines: it does not tell whether the last line ends with one.
     while from < text.len() {
         let end = line_end(text, from);
         if text.len() <= end + 1 {
