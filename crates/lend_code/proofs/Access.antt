@@ -1,16 +1,14 @@
--- translate, load and store of the code: the walk to a page's frame, the cache's search and insertion, and each call from its
+-- translate, load and store of the code: what the walk to a page's frame comes to, the insertion into the cache, and each call from its
 -- number to its outcome.
 use mathlib.Core.Path.{◌≡◌, refl, sym, ap, ◌∙◌}
-use mathlib.Core.Bool.{Bool, true, false, not, ◌||◌, cond}
+use mathlib.Core.Bool.{Bool, true, false, not, cond}
 use mathlib.Core.List.{List}
-use mathlib.Core.Logic.{◌⊎◌, inl, inr}
-use Prim.Native.Nat.{ℕ, zero, suc, ◌+◌, ◌-◌, ◌≤◌, ◌<◌}
-use native.Mathlib.Nat.{add-zero, add_assoc}
+use Prim.Native.Nat.{ℕ, ◌+◌, ◌≤◌, ◌<◌}
 use native.Mathlib.Decide.{dec_lt}
 use native.Mathlib.Numerals.{add-one}
 use native.Mathlib.Omega.{arith}
-use lib.Dec.{T, eqb, ltb, leb, leb→le, nleb→lt}
-use lib.ListN.{length, get_or, set, get_or-eq_default}
+use lib.Dec.{eqb, ltb, nleb→lt}
+use lib.ListN.{length, get_or, set}
 use borrow.Author.Tests.{lt-ltb, le-ltb}
 use Rattle.lend.specs.declared.Link.{Link}
 use Rattle.lend.specs.declared.Link.TheVariants.{Nothing, Frame, Page}
@@ -18,21 +16,21 @@ use Rattle.lend.specs.declared.Slot.{Slot}
 use Rattle.lend.specs.declared.Place.{Place}
 use Rattle.lend.specs.Sizes.{Sizes, memory_bytes, slot_count, key}
 use Rattle.lend.specs.Rights.{read_right, write_right, within}
-use Rattle.lend.specs.Slots.{empty_slot, slot_at, held}
+use Rattle.lend.specs.Slots.{slot_at, held}
 use Rattle.lend.specs.Tables.{Tables, State, alone, table_of}
 use Rattle.lend.specs.Line.{frame, frame_of, links, links_of}
-use Rattle.lend.specs.Cache.{empty_place, place_at, place_for, cached, empty_in, goes_to, next_after, inserted}
+use Rattle.lend.specs.Cache.{place_at, place_for, cached, empty_in, goes_to, next_after, inserted}
 use Rattle.lend.specs.Sound.{Sound}
 use Rattle.lend.specs.SoundTest.{sound_test}
 use Rattle.lend.specs.Numbers.{no_space, not_live, no_address, bad_rights}
 use Rattle.lend.specs.Translate.{address_page, page_at, physical, links_to, hit, entry_of, with_entry, looked}
 use Rattle.lend.specs.Calls.{Call, Translate, Load, Store, Outcome, number, cases, step, accept, refuse, board_after, memory_after, report, plain_reply}
-use Rattle.lend_basics.proofs.Bools.{or_cases, not_or, true_is}
+use Rattle.lend_basics.proofs.Bools.{true_is}
 use Rattle.lend_sound.proofs.SoundTest.{test_sound}
 use Rattle.lend_laws.proofs.Accepted.{accepted, refused, tested}
 use Rattle.lend_lending.proofs.Frames.{frame_held}
 use Rattle.lend_lending.proofs.Insert.{hit_place, page_in, ReadFine, translate_fine, load_fine, store_fine}
-use Rattle.lend_code.specs.Inner.{up_of, inside_of, frame_in, link_in}
+use Rattle.lend_code.specs.Inner.{inside_of, link_in}
 use Rattle.lend_code.specs.Access.{place_after, access_number, Look, look_if, look_at, counted_of, byte_at}
 use Rattle.lend_code.proofs.Fits.{inside_key}
 
@@ -57,98 +55,11 @@ module _ (z : Sizes) (b : List Slot) (k : ℕ) where
   abbrev pub Reached : ℕ → ℕ → Type 0
   Reached fr over = (fr ≡ frame_of z (slot_at b) k) × (over ≡ links_of z (slot_at b) k)
 
-  pub climbing_none : length b ≡ slot_count z → 1 ≤ z.spaces → Climbing k 0 z.spaces
-  climbing_none long one = record { slots_long = long; some_left = one; visited = omega arith; same = refl; more = omega arith }
-
-  -- a page past the table has no frame, and no link
-  past_none : (n q : ℕ) → length b ≡ slot_count z → slot_count z ≤ q → (frame z (slot_at b) n q ≡ 0) × (links z (slot_at b) n q ≡ 0)
-  unfolding frame links
-  past_none zero q long h = (refl, refl)
-  past_none (suc n) q long h = rw (get_or-eq_default b empty_slot {n = q} (omega arith)) (refl, refl)
-
   -- the links gone over, and the one that the page at has, are at most as many as there are spaces
   pub climbing_room : (at over left n : ℕ) → Climbing at over left → n ≡ link_in (slot_at b at).link → over + n ≤ z.spaces
   climbing_room at over left n w e = omega (arith, one_link (slot_at b at).link e, w.visited, w.some_left)
 
-  module _ (at over left up : ℕ) (w : Climbing at over left) (u : up ≡ up_of z (slot_at b at).link) where
-    fuel : suc (left - 1) ≡ left
-    fuel = omega (arith, w.some_left)
-
-    -- what is left, followed one page at a time
-    ahead : (frame z (slot_at b) (suc (left - 1)) at ≡ frame_of z (slot_at b) k) × (over + links z (slot_at b) (suc (left - 1)) at ≡ links_of z (slot_at b) k)
-    ahead = (ap (λ (n : ℕ). frame z (slot_at b) n at) fuel ∙ w.same, ap (λ (n : ℕ). over + links z (slot_at b) n at) fuel ∙ w.more)
-
-    -- the turn that ends the walk: no page of the table is above, or none is left to visit
-    pub climbing_ends : (leb (slot_count z) up || leb left 1) ≡ true → Reached (frame_in (slot_at b at).link) (over + link_in (slot_at b at).link)
-    unfolding frame links
-    climbing_ends t =
-        let e = go (slot_at b at).link refl (or_cases (leb (slot_count z) up) (leb left 1) (true_is _ t)) in
-        (e.0 ∙ ahead.0, ap (λ (n : ℕ). over + n) e.1 ∙ ahead.1)
-      where
-        last : (n q : ℕ) → n ≡ left - 1 → q ≡ up → T (leb (slot_count z) up) ⊎ T (leb left 1) → (0 ≡ frame z (slot_at b) n q) × (0 ≡ links z (slot_at b) n q)
-        last n q e v (inl x) =
-            let l = leb→le (slot_count z) up x in
-            let none = past_none n q w.slots_long (omega arith) in
-            (sym none.0, sym none.1)
-        last zero q e v (inr x) = (refl, refl)
-        last (suc n) q e v (inr x) = let l = leb→le left 1 x in absurd (omega arith)
-
-        go : (l : Link) → (slot_at b at).link ≡ l → T (leb (slot_count z) up) ⊎ T (leb left 1)
-            → (frame_in (slot_at b at).link ≡ frame z (slot_at b) (suc (left - 1)) at) × (link_in (slot_at b at).link ≡ links z (slot_at b) (suc (left - 1)) at)
-        go Nothing e x = rw e (refl, refl)
-        go (Frame i) e x = rw e (refl, refl)
-        go (Page s p) e x =
-            let v : up ≡ key z s p = u ∙ rw e in
-            let l = last (left - 1) (key z s p) refl (sym v) x in
-            rw e (l.0, ap suc l.1)
-
-    -- a turn that goes on to the parent
-    pub climbing_up : (leb (slot_count z) up || leb left 1) ≡ false → Climbing up (over + 1) (left - 1)
-    unfolding frame links
-    climbing_up t =
-        let g = go (slot_at b at).link refl in
-        record {
-          slots_long = w.slots_long;
-          some_left = omega (arith, above);
-          visited = omega (arith, above, w.visited);
-          same = sym g.0 ∙ ahead.0;
-          more = add_assoc over 1 (links z (slot_at b) (left - 1) up) ∙ (ap (λ (n : ℕ). over + n) (sym g.1) ∙ ahead.1);
-        }
-      where
-        not_both : T (not (leb (slot_count z) up)) × T (not (leb left 1))
-        not_both = not_or (leb (slot_count z) up) (leb left 1) (rw t tt)
-
-        inside : up < slot_count z
-        inside = nleb→lt (slot_count z) up not_both.0
-
-        above : 1 < left
-        above = nleb→lt left 1 not_both.1
-
-        go : (l : Link) → (slot_at b at).link ≡ l
-            → (frame z (slot_at b) (suc (left - 1)) at ≡ frame z (slot_at b) (left - 1) up) × (links z (slot_at b) (suc (left - 1)) at ≡ 1 + links z (slot_at b) (left - 1) up)
-        go Nothing e = let v : up ≡ slot_count z = u ∙ rw e in absurd (omega (arith, inside))
-        go (Frame i) e = let v : up ≡ slot_count z = u ∙ rw e in absurd (omega (arith, inside))
-        go (Page s p) e = let v : up ≡ key z s p = u ∙ rw e in rw (e, v) (refl, omega arith)
-
-  -- a walk that comes past the table finds nothing there
-  pub climbing_past : (at over left : ℕ) → Climbing at over left → slot_count z ≤ at → Reached 0 over
-  climbing_past at over left w h =
-      let none = past_none left at w.slots_long h in
-      (sym none.0 ∙ w.same, sym (ap (λ (n : ℕ). over + n) none.1 ∙ add-zero over) ∙ w.more)
-
--- ── the cache's search and insertion ─────────────────────────────────────
-module _ (space page : ℕ) (c : List Place) (n : ℕ) (long : length c ≡ n) (at : ℕ) (is : at ≡ place_for space page c) where
-  pub found_hit : at < n → true ≡ cached space page c
-  unfolding cached
-  found_hit h = sym (ap (λ (i : ℕ). ltb i (length c)) (sym is) ∙ lt-ltb at (length c) (omega arith))
-
-  pub found_miss : n ≤ at → (false ≡ cached space page c) × (empty_place ≡ place_at c (place_for space page c))
-  unfolding cached
-  found_miss h = (
-    sym (ap (λ (i : ℕ). ltb i (length c)) (sym is) ∙ le-ltb at (length c) (omega arith)),
-    sym (ap (place_at c) (sym is) ∙ get_or-eq_default c empty_place {n = at} (omega arith)),
-  )
-
+-- ── the cache's insertion ────────────────────────────────────────────────
 module _ (z : Sizes) (c : List Place) (next : ℕ) (q : Place) (long : length c ≡ z.places) (at : ℕ) (is : at ≡ empty_in c) where
   -- an empty place is there: the entry goes to it, and the next place to replace stays
   pub insert_empty : at < z.places → (set c at q ≡ inserted c next q) × (next ≡ next_after c next)
@@ -227,16 +138,6 @@ module _ (z : Sizes) (b : Tables) (space page : ℕ) (found : Bool) (is : found 
       (look_at z b space page)
   unfolding look_at
   look_miss k fr over at ek r ea e = rw (r.0, r.1, ea, ek, sym is ∙ e)
-
--- how the links are counted, by whether the page was found: the code's two cases
-module _ (z : Sizes) (b : List Slot) (space page : ℕ) (found : Bool) (followed : ℕ) where
-  pub counted_hit : (k fr over : ℕ) → k ≡ key z space page → Reached z b k fr over → found ≡ true → over ≡ counted_of z b space page found followed
-  unfolding counted_of
-  counted_hit k fr over ek r e = rw (e, r.1, ek)
-
-  pub counted_miss : found ≡ false → followed ≡ counted_of z b space page found followed
-  unfolding counted_of
-  counted_miss e = rw e
 
 -- on a sound board, at a page that is held, the frame is the page's and the board is that of the rules
 module _ (z : Sizes) (b : Tables) (sound : Sound z b) (space address rights : ℕ) (fine : ReadFine z b space address rights) where

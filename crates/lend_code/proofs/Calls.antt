@@ -3,9 +3,7 @@ use mathlib.Core.Path.{◌≡◌, refl, sym, ap, ◌∙◌}
 use mathlib.Core.Bool.{Bool, true, false, not, cond}
 use mathlib.Core.List.{List}
 use Prim.Native.Nat.{ℕ, ◌≤◌, ◌<◌}
-use native.Mathlib.Omega.{arith}
 use lib.Dec.{eqb}
-use borrow.Author.Tests.{not-true, not-false}
 use Rattle.lend.specs.declared.Count.{Count}
 use Rattle.lend.specs.Sizes.{Sizes, slot_count, key}
 use Rattle.lend.specs.Rights.{all_rights}
@@ -15,9 +13,9 @@ use Rattle.lend.specs.Sound.{Sound}
 use Rattle.lend.specs.SoundTest.{sound_test, Tells}
 use Rattle.lend.specs.Numbers.{first_number}
 use Rattle.lend.specs.Calls.{Call, Create, Delete, Unmap, Flush, number, cases, step, accept, refuse, board_after, memory_after, report, with_live}
-use Rattle.lend_basics.proofs.Bools.{is_true, true_is}
+use Rattle.lend_basics.proofs.Bools.{is_true}
 use Rattle.lend_sound.proofs.SoundTest.{test_sound, sound_test_law}
-use Rattle.lend_laws.proofs.Accepted.{accepted, refused, tested, PageFine, DeleteFine, CreateFine, create_fine, delete_fine, unmap_fine, flush_fine}
+use Rattle.lend_laws.proofs.Accepted.{accepted, refused, tested, PageFine, DeleteFine, delete_fine, unmap_fine, flush_fine}
 use Rattle.lend_laws.proofs.Emptied.{emptied_none}
 use Rattle.lend_summary.specs.Counts.{less_at}
 use Rattle.lend_code.specs.Inner.{line_has, rights_of, summary_with, Framed, space_pages, page_checks, page_number, cut_slots, cut_lost, withdrawn_of}
@@ -37,21 +35,10 @@ module _ (z : Sizes) (b : Tables) (c : Call) (n : ℕ) (is : n ≡ number z (alo
   pub call_sound : n ≡ 0 → Sound z b
   call_sound e = test_sound z b (tested z (alone b) c (sym is ∙ e))
 
--- a board that is not sound refuses it with 1
-pub call_unsound : (z : Sizes) (b : Tables) (c : Call) (r : Bool) → Tells z b r → not r ≡ true → refuse (alone b) 1 ≡ step z (alone b) c
-unfolding number
-call_unsound z b c r told e =
-    let q : sound_test z b ≡ false = sym told.as_test ∙ not-true r e in
-    call_refused z b c 1 (rw q) (λ h. omega arith)
-
 -- the number of a call whose soundness was told apart
 pub call_judged : (z : Sizes) (b : Tables) (c : Call) (n : ℕ) (t : Bool) → Tells z b t → n ≡ cond (not t) 1 (first_number (cases z (alone b) c)) → n ≡ number z (alone b) c
 unfolding number
 call_judged z b c n t told e = e ∙ ap (λ (s : Bool). cond (not s) 1 (first_number (cases z (alone b) c))) told.as_test
-
--- and one that is sound is called with no test of it
-pub sound_told : (z : Sizes) (b : Tables) (r : Bool) → Tells z b r → not r ≡ false → Sound z b
-sound_told z b r told e = told.if_true (true_is r (not-false r e))
 
 pub sound_true : (z : Sizes) (b : Tables) → Sound z b → sound_test z b ≡ true
 sound_true z b sound = is_true (sound_test z b) (sound_test_law z b sound)
@@ -94,9 +81,6 @@ named_in {z = z} {s = s} {p = p} fine = key_in z s p fine.space_in fine.page_in
 
 -- ── create and delete ────────────────────────────────────────────────────
 module _ (z : Sizes) (b : Tables) (s n : ℕ) (is : n ≡ number z (alone b) (Create s)) (done : n ≡ 0) where
-  pub create_shows : CreateFine z b s
-  create_shows = create_fine z (alone b) s (sym is ∙ done)
-
   -- nothing is emptied, so the answer is like a refusal's with number 0
   pub create_done : refuse (alone (with_live b s true)) 0 ≡ step z (alone b) (Create s)
   unfolding board_after memory_after report

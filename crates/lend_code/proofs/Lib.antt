@@ -4,7 +4,6 @@ pub mod Ends
 pub mod QuickLines
 pub mod Columns
 pub mod Summary
-pub mod Cache
 pub mod Drops
 pub mod SoundCode
 pub mod Withdrawals

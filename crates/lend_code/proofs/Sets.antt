@@ -8,7 +8,7 @@ use native.Mathlib.Omega.{arith}
 use lib.Dec.{eqb, leb}
 use lib.ListN.{length, get_or, set, replicate, length-set, length-replicate, get_or-replicate}
 use lib.Seq.{ext_get_or, get_or-set_same, get_or-set_other}
-use borrow.Author.Tests.{eq-eqb, ne_eqb, lt-ltb, le-ltb}
+use borrow.Author.Tests.{eq-eqb, ne_eqb, le-ltb}
 use Rattle.lend.specs.declared.Slot.{Slot}
 use Rattle.lend.specs.declared.Place.{Place}
 use Rattle.lend.specs.Sizes.{Sizes, slot_count, in_pool}
@@ -64,9 +64,6 @@ module _ (z : Sizes) where
 
   pub framed_none : (x : Slot) → x ≡ empty_slot → Framed (replicate (slot_count z) x) 0
   framed_none x e = rw e (changed_none empty_slot start_slot (replicate (slot_count z) empty_slot))
-
-  pub frame_starts : (k : ℕ) → k < z.pages → frame_slot k ≡ start_slot k
-  frame_starts k h = rw (lt-ltb k z.pages h)
 
   pub framed_all : (slots : List Slot) (k : ℕ) → Framed slots k → k ≡ z.pages → slots ≡ start_slots z
   unfolding start_slots start_board

@@ -20,12 +20,10 @@ use Rattle.lend.specs.Tables.{Tables, Shaped, table_of, alive}
 use Rattle.lend.specs.Line.{frame_of}
 use Rattle.lend.specs.Cache.{filled, page_named, place_at, place_for}
 use Rattle.lend.specs.SoundTest.{slot_test, line_test, pages_test, names_test, place_test, is_empty_place, cache_test, shape_test, same_counts, summary_test, sound_test}
-use Rattle.lend.specs.Sound.{Sound}
 use Rattle.lend.specs.Summary.{no_count, summary_of}
 use Rattle.lend_basics.proofs.Bools.{and_l, and_r, and_i, is_true, is_false, true_is, same_test, differ, positive}
 use Rattle.lend_basics.proofs.Lists.{each, every_of, tabulate_at}
 use Rattle.lend_basics.proofs.Loops.{Tested, tested_not, tested_all}
-use Rattle.lend_sound.proofs.SoundTest.{sound_test_law}
 use Rattle.lend_code.specs.Inner.{inside_of, Fitting, quick_line, rights_of, Framed, summary_with, place_fits, place_ok, places_fit, rights_found, frames_found, counts_found}
 use Rattle.lend_code.proofs.Fits.{key_in, inside_key}
 use Rattle.lend_code.proofs.QuickLines.{quick_lines}
@@ -161,29 +159,6 @@ module _ (z : Sizes) (b : List Slot) (live : List Bool) (fit : Bool) (rights fra
   unfolding rights_found frames_found counts_found
   none_found e f r s c = (f ∙ e, (r ∙ rw (← e), (s ∙ rw (← e), c ∙ rw (← e))))
 
-  -- of sound pages, what the passes over them made
-  pub all_found : length b ≡ slot_count z → true ≡ pages_test z live (slot_at b) → fit ≡ true → rights ≡ rights_of z b
-      → frames ≡ tabulate (slot_count z) (λ k. frame_of z (slot_at b) k) → counts ≡ summary_with z (rights_of z b) frames → Found z b live fit rights frames counts
-  unfolding rights_found frames_found counts_found
-  all_found long e f r s c = (f ∙ e, (r ∙ rw (← e), (s ∙ rw (← e), (c ∙ counts_are z b live long (all_fits z b live (sym e)) (rights_of z b) frames refl s) ∙ rw (← e))))
-
-  -- where they fit, it is all that is asked of them
-  module _ (found : Found z b live fit rights frames counts) (t : fit ≡ true) where
-    sound_pages : pages_test z live (slot_at b) ≡ true
-    sound_pages = sym found.0 ∙ t
-
-    pub found_rights : rights ≡ rights_of z b
-    unfolding rights_found
-    found_rights = found.1.0 ∙ rw sound_pages
-
-    pub found_frames : frames ≡ tabulate (slot_count z) (λ k. frame_of z (slot_at b) k)
-    unfolding frames_found
-    found_frames = found.1.1.0 ∙ rw sound_pages
-
-    pub found_counts : counts ≡ summary_of z (slot_at b)
-    unfolding counts_found
-    found_counts = found.1.1.1 ∙ rw sound_pages
-
 -- ── the board ────────────────────────────────────────────────────────────
 module _ (z : Sizes) (b : Tables) (shape : Shaped z b) where
   shape_true : shape_test z b ≡ true
@@ -253,11 +228,3 @@ module _ (z : Sizes) (b : Tables) (shape : Shaped z b) where
         ∙ ap (λ (t : Bool). t && ltb b.next z.places && same_counts z b.summary (summary_of z (table_of b)))
         (every_same z.places _ (λ i. place_test z (table_of b) b.places i (place_at b.places i)) (λ i l. place_ok_law rights frames r f (place_at b.places i) b.places i))
         ∙ rw (shape_true, fit, shape.places_long)
-
--- a sound board's frames were found
-pub sound_framed : (z : Sizes) (b : Tables) → Sound z b → Framed z (table_of b) (frames_found z b.slots b.live)
-unfolding frames_found sound_test
-sound_framed z b sound =
-    let h = sound_test_law z b sound in
-    let t : T (pages_test z b.live (table_of b)) = search (and_l, and_r) depth 12 in
-    all_framed z b.slots b.live sound.shape.slots_long _ (rw (is_true (pages_test z b.live (table_of b)) t))

@@ -5,22 +5,20 @@ use mathlib.Core.List.{List}
 use Prim.Native.Nat.{ℕ, zero, suc, ◌+◌, ◌≤◌, ◌<◌}
 use native.Mathlib.Decide.{dec_lt, ℕ_discrete}
 use native.Mathlib.Numerals.{add-one}
-use native.Mathlib.Nat.{le_of_eq, add-zero}
+use native.Mathlib.Nat.{le_of_eq}
 use native.Mathlib.Omega.{arith}
 use lib.Dec.{T, eqb}
 use mir.Val.{bool_byte}
 use lib.ListN.{length, get_or, set, length-set, replicate, length-replicate, get_or-replicate, get_or-eq_default}
 use lib.Seq.{ext_get_or, get_or-set_same, get_or-set_other}
-use borrow.Author.Tests.{eq-eqb, lt-ltb}
+use borrow.Author.Tests.{lt-ltb}
 use Rattle.lend.specs.declared.Count.{Count}
 use Rattle.lend.specs.Sizes.{Sizes, slot_count, in_pool}
 use Rattle.lend.specs.Rights.{read_right, write_right, execute_right, within}
 use Rattle.lend.specs.Slots.{Table, held}
 use Rattle.lend.specs.Line.{frame_of}
 use Rattle.lend.specs.Summary.{no_count, count_at, counted, more, summary_to, summary_of}
-use Rattle.lend.specs.SoundTest.{same_count, same_counts}
-use Rattle.lend_basics.proofs.Bools.{and_false}
-use Rattle.lend_basics.proofs.Loops.{Counted, counted_none, counted_yes, counted_no, counted_all, Tested, tested_not, tested_all}
+use Rattle.lend_basics.proofs.Loops.{Counted, counted_none, counted_all}
 use Rattle.lend_summary.specs.Counts.{lost_count, CountBelow}
 use Rattle.lend_code.specs.Inner.{counts_at, summary_by, summary_with, more_in16, counted_in16, losses_of, Framed}
 
@@ -72,16 +70,6 @@ module _ (z : Sizes) (f : Table) (by_rights : (k : ℕ) → held (f k) ≡ not (
 
   pub summary_by_law : summary_with z rights frames ≡ summary_of z f
   summary_by_law = summary_to_law (slot_count z)
-
--- ── two summaries compared ───────────────────────────────────────────────
-module _ (z : Sizes) (s t : List Count) where
-  -- a count that differs settles it
-  pub counts_not : (i : ℕ) → i < z.pages → same_count (count_at s i) (count_at t i) ≡ false → false ≡ same_counts z s t
-  counts_not i h e =
-      sym (ap (λ (b : Bool). eqb (length s) z.pages && b) (tested_not (λ j. same_count (count_at s j) (count_at t j)) z.pages i h e) ∙ and_false (eqb (length s) z.pages))
-
-  pub counts_all : (i : ℕ) → length s ≡ z.pages → Tested (λ j. same_count (count_at s j) (count_at t j)) i → z.pages ≤ i → true ≡ same_counts z s t
-  counts_all i long w h = sym (rw (eq-eqb (length s) z.pages long, tested_all (λ j. same_count (count_at s j) (count_at t j)) z.pages i w h))
 
 -- ── in 16 bits ───────────────────────────────────────────────────────────
 more_fits : (t : Bool) (n : ℕ) → n < 65535 → more_in16 t n ≡ more t n
@@ -191,24 +179,6 @@ losing_none before after = record { held_lost = counted_none _; read_lost = coun
 pub bit_small : (b : Bool) → bool_byte b ≤ 1
 bit_small true = omega arith
 bit_small false = omega arith
-
--- one number more, whose test is cast
-one_more_counted : (t : ℕ → Bool) (n k : ℕ) (b : Bool) → Counted t n k → b ≡ t k → Counted t (n + bool_byte b) (k + 1)
-one_more_counted t n k true c e = counted_yes t n k c (sym e)
-one_more_counted t n k false c e = subst (λ (m : ℕ). Counted t m (k + 1)) (sym (add-zero n)) (counted_no t n k c (sym e))
-
-pub losing_more : (before after : List ℕ) (held read write execute k : ℕ) → Losing before after held read write execute k
-    → (h r w x : Bool) → h ≡ (not (eqb (get_or before k 0) 0) && eqb (get_or after k 0) 0)
-    → r ≡ (within read_right (get_or before k 0) && not (within read_right (get_or after k 0)))
-    → w ≡ (within write_right (get_or before k 0) && not (within write_right (get_or after k 0)))
-    → x ≡ (within execute_right (get_or before k 0) && not (within execute_right (get_or after k 0)))
-    → Losing before after (held + bool_byte h) (read + bool_byte r) (write + bool_byte w) (execute + bool_byte x) (k + 1)
-losing_more before after held read write execute k l h r w x eh er ew ex = record {
-  held_lost = one_more_counted _ held k h l.held_lost eh;
-  read_lost = one_more_counted _ read k r l.read_lost er;
-  write_lost = one_more_counted _ write k w l.write_lost ew;
-  execute_lost = one_more_counted _ execute k x l.execute_lost ex;
-}
 
 pub losing_all : (z : Sizes) (before after : List ℕ) (held read write execute k : ℕ) → Losing before after held read write execute k → k ≡ slot_count z
     → ◌≡◌ {A = Count} (record { held = held; read = read; write = write; execute = execute }) (losses_of z before after)

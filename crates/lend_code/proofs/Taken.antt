@@ -21,7 +21,7 @@ use Rattle.lend.specs.Cache.{empty_place, filled, page_named, place_at, names, p
 use Rattle.lend.specs.Sound.{SoundPages, SoundCache, Sound}
 use Rattle.lend.specs.Withdraw.{flushed}
 use Rattle.lend.specs.Emptied.{emptied}
-use Rattle.lend.specs.Calls.{Outcome, emptied_reply, plain_reply, with_slots}
+use Rattle.lend.specs.Calls.{emptied_reply, with_slots}
 use Rattle.lend_basics.proofs.Bools.{and_l, and_r, or_true, or_false}
 use Rattle.lend_basics.proofs.Rights.{less_zero}
 use Rattle.lend_sound.proofs.Places.{key_space, key_page}
@@ -158,10 +158,3 @@ module _ (z : Sizes) (b : Tables) (sound : Sound z b) (new : List Slot) (u v : �
       memory = (alone b).memory;
     };
   }
-
--- what the code makes, piece by piece
-pub taken_made : (z : Sizes) (b : Tables) (new : List Slot) (counts : List Count) (u v place n : ℕ) (before after : List ℕ)
-    → place ≡ place_for u v b.places → before ≡ rights_of z b.slots → after ≡ rights_of z new → n ≡ lost_all z before after
-    → ◌≡◌ {A = Outcome} (record { reply = plain_reply 0 n; state = alone (record { slots = new; live = b.live; places = dropped_where z (lost_in before after) (dropped b.places place); next = b.next; summary = counts }) }) (taken_of z b new counts u v)
-unfolding taken_of
-taken_made z b new counts u v place n before after hp hb ha hn = rw (hn, ha, hb, hp)

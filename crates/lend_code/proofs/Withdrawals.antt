@@ -126,18 +126,6 @@ module _ (z : Sizes) (b : Tables) (sound : Sound z b) (pages : List Bool) (d : �
     };
   }
 
--- what the code makes, piece by piece: the board, and what was lost
-pub cut_made : (z : Sizes) (b : Tables) (pages : List Bool) (d : ℕ) (before after : List ℕ) (slots : List Slot)
-    → before ≡ rights_of z b.slots → after ≡ rights_left z before pages d → slots ≡ slots_with z b.slots after
-    → ◌≡◌ {A = Tables} (record { slots = slots; live = b.live; places = dropped_where z (lost_in before after) b.places; next = b.next; summary = b.summary }) (cut_of z b pages d)
-unfolding cut_of cut_slots
-cut_made z b pages d before after slots hb ha hs = rw (hs, ha, hb)
-
-pub lost_made : (z : Sizes) (b : List Slot) (pages : List Bool) (d : ℕ) (before after : List ℕ) (lost : Count)
-    → before ≡ rights_of z b → after ≡ rights_left z before pages d → lost ≡ losses_of z before after → lost ≡ cut_lost z b pages d
-unfolding cut_lost
-lost_made z b pages d before after lost hb ha hl = rw (hl, ha, hb)
-
 -- and the answer, from the two and the counts
 pub withdrawn_made : (z : Sizes) (b : Tables) (pages : List Bool) (d : ℕ) (t : Tables) (lost : Count) (counts : List Count) → t ≡ cut_of z b pages d → lost ≡ cut_lost z b.slots pages d
     → ◌≡◌ {A = Outcome} (record { reply = plain_reply 0 lost.held; state = alone (with_summary t counts) }) (withdrawn_of z b pages d counts)

@@ -19,12 +19,6 @@ use Rattle.lend.specs.Numbers.{no_space, no_page, bad_rights}
 use Rattle.lend.specs.Calls.{Outcome, plain_reply}
 use Rattle.lend_summary.specs.Counts.{lost_count, more_at}
 
--- the page that a link leads to, or the number of all pages where it leads to none
-abbrev pub up_of : Sizes → Link → ℕ
-up_of z Nothing = slot_count z
-up_of z (Frame i) = slot_count z
-up_of z (Page s p) = key z s p
-
 -- a page of the table itself, for any other the first one
 abbrev pub inside_of : Sizes → ℕ → ℕ
 inside_of z k = cond (ltb k (slot_count z)) k 0
@@ -109,22 +103,10 @@ lent_fits z live up k r s p =
     alive live (space_of z k) && ltb s z.spaces && ltb p z.pages && alive live s && held up && leb 1 r && leb r all_rights
     && within r up.rights
 
--- link_test, where the parent's slot is at hand
-abbrev pub link_fits : Sizes → List Bool → Slot → ℕ → ℕ → Link → Bool
-link_fits z live up k r Nothing = not (in_pool z k) && eqb r 0
-link_fits z live up k r (Frame i) = in_pool z k && eqb i k && eqb r all_rights
-link_fits z live up k r (Page s p) = not (in_pool z k) && lent_fits z live up k r s p
-
 -- every slot fits its page, for some live spaces
 pub record Fitting (z : Sizes) (b : List Slot) : Type 0 where
   pub live : List Bool
   pub fits : (k : ℕ) → k < slot_count z → T (slot_test z live (slot_at b) k)
-
--- the frame that a link leads to directly, 0 where it leads to none
-abbrev pub frame_in : Link → ℕ
-frame_in Nothing = 0
-frame_in (Frame i) = i
-frame_in (Page s p) = 0
 
 -- how many links a page has that keeps this one: one, or none where it is empty
 abbrev pub link_in : Link → ℕ
@@ -141,11 +123,6 @@ rest_ok z f k n (Page s p) =
 
 unfoldable pub quick_line : Sizes → Table → ℕ → Bool
 quick_line z f k = rest_ok z f k z.spaces (f k).link
-
--- what the walk along all lines finds: whether every line is of the right kind, and if so each page's frame
-pub record Ended (z : Sizes) (b : List Slot) (rooted : Bool) (frames : List ℕ) : Type 0 where
-  pub all_rooted : rooted ≡ every (slot_count z) (quick_line z (slot_at b))
-  pub all_frames : rooted ≡ true → frames ≡ tabulate (slot_count z) (λ k. frame_of z (slot_at b) k)
 
 -- the place names a page with these rights and this frame
 unfoldable pub place_fits : Sizes → ℕ → ℕ → Place → Bool

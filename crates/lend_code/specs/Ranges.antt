@@ -1,16 +1,12 @@
 -- What the inner functions of the calls over ranges compute. Only their contracts speak of these; no caller has to read them.
-use Rattle.std.specs.Prelude.{ℕ, ◌+◌, not, ◌&&◌, cond, List, ◌∷◌, eqb, ltb, leb}
+use Rattle.std.specs.Prelude.{ℕ, ◌+◌, not, ◌&&◌, cond, List, ◌∷◌, eqb, ltb}
 use Rattle.lend.specs.Sizes.{Sizes}
 use Rattle.lend.specs.Tables.{Tables, State, alone}
 use Rattle.lend.specs.SoundTest.{sound_test}
 use Rattle.lend.specs.Numbers.{◌when◌, first_number}
 use Rattle.lend.specs.Calls.{Outcome}
-use Rattle.lend.specs.Ranges.{Range, part_pages, one_cases, pair_cases, RangeOutcome}
+use Rattle.lend.specs.Ranges.{Range, one_cases, pair_cases, RangeOutcome}
 use Rattle.lend_code.specs.Inner.{rights_of, lost_all}
-
--- how many pages a part of the size has, 0 where no part has that size
-unfoldable pub part_count : Sizes → ℕ → ℕ
-part_count z size = cond (leb 10 size && leb (part_pages size) z.pages) (part_pages size) 0
 
 -- ── the first checks, where the ranges are at hand ───────────────────────
 -- of an unmap or a flush
