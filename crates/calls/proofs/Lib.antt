@@ -1,5 +1,1 @@
-mod PageCalls
 mod Starts
-mod Withdrawing
-pub mod Cuts
-pub mod Others
