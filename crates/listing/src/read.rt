@@ -72,6 +72,7 @@ pub fn rises(rising: bool, last: usize, next: usize) -> bool
 }
 
 // What refuses a text, by what was found of it.
+#[tactic(auto, unfolding(crate::specs::Read::refusal))]
 pub fn judged(formed: bool, ordered: bool, sound: bool) -> Result<(), Refusal>
     ensures { answer_of result ≡ refusal formed ordered sound }
 {
