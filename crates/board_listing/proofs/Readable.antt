@@ -1,5 +1,6 @@
 -- The numbers of a model's listing have five digits at most, so that they can be read.
-use Prim.Native.Nat.{ℕ}
+use Prim.Native.Nat.{ℕ, ◌*◌, ◌≤◌}
+use native.Mathlib.Nat.{mul-le-mul_right}
 use native.Mathlib.Omega.{arith}
 use Rattle.listing.proofs.Live.{few_set}
 use Rattle.listing.proofs.Said.{Readable}
@@ -15,3 +16,9 @@ readable {spaces = spaces} m = record {
   pages_small = omega (arith, m.few_pages);
   slots_small = omega (arith, m.slots_are, m.few_slots);
 }
+
+-- space 0 is one of the spaces
+pub pool_within : {spaces pages slots places : ℕ} → IsModel spaces pages slots places → pages ≤ spaces * pages
+pool_within {spaces = spaces} {pages = pages} m =
+    let one : 1 ≤ spaces = omega (arith, m.two_spaces) in
+    omega (arith, mul-le-mul_right pages one)
