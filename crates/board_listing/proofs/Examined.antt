@@ -1,0 +1,16 @@
+-- What a search by a test has found, and the test itself.
+use mathlib.Core.Path.{◌≡◌, refl, sym, ap, ◌∙◌}
+use mathlib.Core.Bool.{Bool, true, false, cond}
+use Rattle.std.specs.Prelude.{Option, Some, None}
+use Rattle.std.specs.Option.{is_some}
+
+both_found : {A : Type 0} (x : A) (t : Bool) → is_some (cond t (Some x) None) ≡ t
+both_found x true = refl
+both_found x false = refl
+
+pub found_test : {A : Type 0} (x : A) {found : Option A} (t : Bool) → found ≡ cond t (Some x) None → {is : Bool} → is ≡ is_some found → is ≡ t
+found_test x t e q = q ∙ (ap is_some e ∙ both_found x t)
+
+pub found_is : {A : Type 0} (x : A) {found : Option A} (t : Bool) → found ≡ cond t (Some x) None → {y : A} → found ≡ Some y → y ≡ x
+found_is x true e q = cc
+found_is x false e q = absurd (cc)
