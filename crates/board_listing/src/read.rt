@@ -99,7 +99,7 @@ fn read_from<const SPACES: usize, const PAGES: usize, const SLOTS: usize, const 
             let held = held_line(&text[from..end], (SLOTS - PAGES) as u32).ok_or(
                 Refusal::MalformedListing,
             )?;
-            return board_with(shape, rising && count == held as usize, &slots, live);
+            return board_with(shape, rising & (count == held as usize), &slots, live);
         }
         let row = row_of(shape, &text[from..end]).ok_or(Refusal::MalformedListing)?;
         let k = shape.key(row.space as u8, row.page as u8);
