@@ -1,5 +1,5 @@
 -- `put_listing` meets its contract: the goals that are left, from the invariant.
-use Prim.Native.Nat.{◌+◌, ◌<◌, ◌≤◌, ◌*◌}
+use Prim.Native.Nat.{◌+◌, ◌<◌, ◌≤◌}
 use mathlib.Core.Path.{◌≡◌, ap, ◌∙◌}
 use native.Mathlib.Omega.{arith}
 use Rattle.listing.proofs.Writing.{list_start, list_turn, list_end, numbered_length, numbered_at, wrote_listing}

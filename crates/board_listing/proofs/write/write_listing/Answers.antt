@@ -1,9 +1,8 @@
 -- `write_listing` meets its contract: an unsound board, a short buffer, and one that is long enough.
 use Prim.Native.Nat.{◌≤◌}
-use mathlib.Core.Path.{◌≡◌}
 use native.Mathlib.Omega.{arith}
 use lib.ListN.{length}
-use Rattle.lend.specs.Sizes.{Sizes, slot_count}
+use Rattle.lend.specs.Sizes.{Sizes}
 use Rattle.lend.specs.Tables.{Tables}
 use Rattle.text.specs.Write.{last_position}
 use Rattle.listing.specs.Listing.{listing_of}
