@@ -1,1 +1,5 @@
+mod PageCalls
 mod Starts
+mod Withdrawing
+pub mod Cuts
+pub mod Others
