@@ -1,4 +1,4 @@
--- A board that may be none, as tables.
+-- A board that may be none, as tables: others stand in its place.
 use Rattle.std.specs.Prelude.{ℕ}
 use Rattle.std.specs.declared.option.Option.{Option}
 use Rattle.std.specs.declared.option.Option.TheVariants.{Some, None}

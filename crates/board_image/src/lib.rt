@@ -11,7 +11,7 @@ pub mod read;
 pub mod write;
 
 // How many bytes an image has: the slots, the live spaces, the places, the next place, the summary.
-pub(crate) fn image_bytes<
+pub fn image_bytes<
     const SPACES: usize,
     const PAGES: usize,
     const SLOTS: usize,

@@ -44,6 +44,7 @@ fn read_live<const SPACES: usize>(bytes: &[u8; SPACES]) -> Option<[bool; SPACES]
     Some(live)
 }
 
+// The places: any four bytes are one.
 fn read_places<const PLACES: usize>(bytes: &[[u8; 4]; PLACES]) -> [Place; PLACES]
     ensures { result ≡ tabulate PLACES (λ i. place_in (get_or bytes.now i []) 0) }
 {
@@ -54,6 +55,7 @@ fn read_places<const PLACES: usize>(bytes: &[[u8; 4]; PLACES]) -> [Place; PLACES
     places
 }
 
+// The summary: any eight bytes are a count.
 fn read_summary<const PAGES: usize>(bytes: &[[u8; 8]; PAGES]) -> [Count; PAGES]
     ensures { result ≡ tabulate PAGES (λ i. count_in (get_or bytes.now i []) 0) }
 {
@@ -113,11 +115,15 @@ fn board_of<const SPACES: usize, const PAGES: usize, const SLOTS: usize, const P
     })
 }
 
+// The board of any bytes.
 pub fn read_image<const SPACES: usize, const PAGES: usize, const SLOTS: usize, const PLACES: usize>(
     shape: Shape<SPACES, PAGES, SLOTS, PLACES>,
     image: &[u8],
 ) -> Board<SPACES, PAGES, SLOTS, PLACES>
     ensures { tables result ≡ board_from (sizes SPACES PAGES PLACES) image.now }
 {
-    board_of(shape, image).unwrap_or(no_board(shape))
+    match board_of(shape, image) {
+        Some(b) => b,
+        None => no_board(shape),
+    }
 }

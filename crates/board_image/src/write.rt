@@ -9,6 +9,7 @@ use board::Board;
 use image::{count_bytes, place_bytes, slot_bytes};
 use lend::{Count, Place, Slot};
 
+// Four bytes of each slot.
 fn write_slots<const SLOTS: usize>(part: &mut [u8], slots: &[Slot; SLOTS])
     requires { length part.old ≡ 4 * SLOTS }
     ensures { part.new ≡ joined bytes_of_slot slots.now }
@@ -18,6 +19,7 @@ fn write_slots<const SLOTS: usize>(part: &mut [u8], slots: &[Slot; SLOTS])
     }
 }
 
+// One byte of each space.
 fn write_live<const SPACES: usize>(part: &mut [u8], live: &[bool; SPACES])
     requires { length part.old ≡ SPACES }
     ensures { part.new ≡ map live_byte live.now }
@@ -27,6 +29,7 @@ fn write_live<const SPACES: usize>(part: &mut [u8], live: &[bool; SPACES])
     }
 }
 
+// Four bytes of each place.
 fn write_places<const PLACES: usize>(part: &mut [u8], places: &[Place; PLACES])
     requires { length part.old ≡ 4 * PLACES }
     ensures { part.new ≡ joined bytes_of_place places.now }
@@ -37,6 +40,7 @@ fn write_places<const PLACES: usize>(part: &mut [u8], places: &[Place; PLACES])
     }
 }
 
+// Eight bytes of each count.
 fn write_summary<const PAGES: usize>(part: &mut [u8], summary: &[Count; PAGES])
     requires { length part.old ≡ 8 * PAGES }
     ensures { part.new ≡ joined bytes_of_count summary.now }
@@ -46,6 +50,7 @@ fn write_summary<const PAGES: usize>(part: &mut [u8], summary: &[Count; PAGES])
     }
 }
 
+// The parts one after the other: slots, live spaces, places, the next place, the summary.
 pub fn write_image<
     const SPACES: usize,
     const PAGES: usize,

@@ -1,5 +1,10 @@
+mod Cuts
+mod Others
 mod PageCalls
+mod PairCalls
+mod RangeChecks
+mod RangeRuns
+mod Refused
+mod Spaces
 mod Starts
 mod Withdrawing
-pub mod Cuts
-pub mod Others

@@ -1,5 +1,5 @@
 -- What a withdrawal makes of a board, step by step, is what the rules say: over plain variables, each with what its step promises.
-use mathlib.Core.Path.{◌≡◌, refl, sym, ap, ◌∙◌}
+use mathlib.Core.Path.{◌≡◌, sym, ap, ◌∙◌}
 use mathlib.Core.Bool.{Bool}
 use mathlib.Core.List.{List}
 use Prim.Native.Nat.{ℕ}

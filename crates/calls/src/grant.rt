@@ -38,20 +38,15 @@ pub(crate) fn grant_page<
     requires { Sound (sizes SPACES PAGES PLACES) (tables b.old) }
     ensures { outcome result (tables b.new) ≡ step (sizes SPACES PAGES PLACES) (alone (tables b.old)) (Grant from page to at rights) }
 {
-    check_named(b, from, page, to, at, rights, to == 0 || from == 0)?;
+    check_named(b, from, page, to, at, rights, (to == 0) | (from == 0))?;
     let asked = rights as u8;
     let giver = b.shape.key(from as u8, page as u8);
     let taker = b.shape.key(to as u8, at as u8);
     let kept = b.slots[giver].link;
-    let under_taker = b.line_has(&b.shape.only(taker));
-    check_lines(
-        b,
-        &under_taker,
-        giver,
-        source_of(b.shape, kept, giver),
-        taker,
-        asked,
-    )?;
+    let taker_alone = b.shape.only(taker);
+    let under_taker = b.line_has(&taker_alone);
+    let source = source_of(b.shape, kept, giver);
+    check_lines(b, &under_taker, giver, source, taker, asked)?;
     let before = b.rights();
     let frame = b.lookup(giver).frame;
     let granted = Slot {
@@ -59,7 +54,8 @@ pub(crate) fn grant_page<
         rights: asked,
     };
     link(b, &under_taker, taker, giver, granted);
-    let under_giver = b.line_has(&b.shape.only(giver));
+    let giver_alone = b.shape.only(giver);
+    let under_giver = b.line_has(&giver_alone);
     let given = cut(b, &under_giver, giver_loses(asked));
     b.count_lost(usize::from(frame), given);
     Ok(settle(b, &before, to as u8, at as u8))

@@ -34,7 +34,8 @@ pub(crate) fn map_page<
     let asked = rights as u8;
     let giver = b.shape.key(from as u8, page as u8);
     let taker = b.shape.key(to as u8, at as u8);
-    let under_taker = b.line_has(&b.shape.only(taker));
+    let taker_alone = b.shape.only(taker);
+    let under_taker = b.line_has(&taker_alone);
     check_lines(b, &under_taker, giver, giver, taker, asked)?;
     let before = b.rights();
     let lent = Slot {

@@ -1,14 +1,13 @@
 -- The parts of an image as lists of their own, cut into elements of some bytes each: what is read of them is what stands in the image.
-use Prim.Native.Nat.{ℕ, zero, suc, ◌+◌, ◌*◌, ◌≤◌, ◌<◌}
+use Prim.Native.Nat.{ℕ, zero, suc, ◌+◌, ◌*◌, ◌<◌}
 use mathlib.Core.Path.{◌≡◌, refl, sym, ap, ◌∙◌}
 use mathlib.Core.Bool.{Bool, true, false, ◌&&◌, cond}
 use mathlib.Core.List.{List, [], ◌∷◌, ◌++◌}
 use native.Mathlib.Nat.{not-suc-le-zero, le_of_suc-le-suc, mul-zero, mul-suc}
 use native.Mathlib.Omega.{arith}
 use lib.Dec.{eqb, leb}
-use lib.ListN.{length, get_or, take, drop, get_or-append}
-use lib.Seq.{ext_get_or, get_or-append-add}
-use Rattle.std.specs.declared.option.Option.{Option}
+use lib.ListN.{length, get_or, drop, get_or-append}
+use lib.Seq.{ext_get_or}
 use Rattle.std.specs.declared.option.Option.TheVariants.{Some, None}
 use Rattle.std.specs.Simd.{first_chunks}
 use Rattle.std.proofs.lemmas.List.{get_or-take, get_or-drop}
@@ -209,7 +208,7 @@ module _ (z : Sizes) {bytes slots live places summary : List ℕ} {next : ℕ} (
         let a = read_as (every n (λ k. slot_reads (get_or slot_parts k []) 0)) ss (tabulate n (λ k. slot_in (get_or slot_parts k []) 0)) e in
         let b = read_as (every z.spaces (λ s. leb (byte_at live_part s) 1)) ls (tabulate z.spaces (λ s. eqb (byte_at live_part s) 1)) f in
         let both : (slots_read z bytes && live_reads z bytes) ≡ true =
-            λ i. (sym slots_read_in_parts ∙ a.0) i && (sym (live_reads_in_part l) ∙ b.0) i in
+        λ i. (sym slots_read_in_parts ∙ a.0) i && (sym (live_reads_in_part l) ∙ b.0) i in
         (λ i. record { slots = ss; live = ls; places = ps; next = next_here z bytes slots live places next summary p i; summary = us })
         ∙ board_good z bytes (slots_read z bytes) (live_reads z bytes) refl refl ss ls ps us long both (a.1 ∙ slots_in_parts)
         (b.1 ∙ live_in_part l)

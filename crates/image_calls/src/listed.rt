@@ -5,6 +5,7 @@ ghost use Rattle.listing_image.specs.Listed.{listed, write_answer, read_answer};
 ghost use Rattle.board.specs.Model.{sizes};
 
 use board::Shape;
+use board_image::image_bytes;
 use board_image::read::read_image;
 use board_image::write::write_image;
 use board_listing::read::read_listing as read_board;
@@ -49,7 +50,7 @@ pub fn read_listing<
     ensures { left result image.new [] out.new ≡ read_answer (sizes SPACES PAGES PLACES) text.now image.old }
 {
     *out = [0; 4];
-    if image.len() != shape.image_bytes() {
+    if image.len() != image_bytes(shape) {
         return u32::from(Refusal::Unsound);
     }
     match read_board(shape, text) {

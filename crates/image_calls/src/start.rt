@@ -4,6 +4,7 @@ ghost use Rattle.image.specs.Answered.{left, start_answer, sound_number};
 ghost use Rattle.board.specs.Model.{sizes};
 
 use board::Shape;
+use board_image::image_bytes;
 use board_image::read::read_image;
 use board_image::write::write_image;
 use calls::start::start as start_of;
@@ -17,7 +18,7 @@ pub fn start<const SPACES: usize, const PAGES: usize, const SLOTS: usize, const 
     ensures { left result image.new [] out.new ≡ start_answer (sizes SPACES PAGES PLACES) image.old }
 {
     *out = [0; 4];
-    let fits = image.len() == shape.image_bytes();
+    let fits = image.len() == image_bytes(shape);
     write_image(image, &start_of(shape));
     u32::from(!fits)
 }

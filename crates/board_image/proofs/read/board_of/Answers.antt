@@ -2,7 +2,8 @@
 use Rattle.board_image.proofs as own
 use mathlib.Core.Path.{◌≡◌, refl, sym, ap, ◌∙◌}
 use native.Mathlib.Omega.{arith}
-use Rattle.image.specs.Image.{no_board, board_from}
+use lib.ListN.{length}
+use Rattle.image.specs.Image.{image_bytes, no_board}
 use Rattle.image.proofs.Image.{board_short}
 use Rattle.image.proofs.Parts.{cut_as, parts_cut, board_no_slots, board_no_live, board_of_parts}
 use Rattle.board.specs.Model.{sizes}
@@ -11,7 +12,7 @@ use own.read.board_of.Goals as goal
 
 pub returns-then-image-whole : goal.returns-then-image-whole
 returns-then-image-whole g c =
-    board_short (sizes g.row.SPACES g.row.PAGES g.row.PLACES) c.args.image.now _ (λ e. c.if-image-whole.true (e ∙ sym c.image_bytes-whole.ensures)) refl
+    board_short (sizes g.row.SPACES g.row.PAGES g.row.PLACES) c.args.image.now _ (λ e. c.if-image-whole.true (omega (arith, e, c.image_bytes-whole.ensures))) refl
 
 pub returns-in_err-slots : goal.returns-in_err-slots
 returns-in_err-slots g c =
@@ -47,7 +48,7 @@ returns g c =
     let three = c.split_at-3.ensures in
     let next = c.in_ok-next.ensures.cases in
     let cut = parts_cut z are one.by_index.0 two.by_index.0 three.by_index.0 next.0 one.front_len two.front_len three.front_len in
-    let whole = c.if-image-whole.false ∙ c.image_bytes-whole.ensures in
+    let whole : length c.args.image.now ≡ image_bytes z = omega (arith, c.if-image-whole.false, c.image_bytes-whole.ensures) in
     board_of_parts z cut are (cut_as 4 g.row.SLOTS _ _ _ _ c.in_ok-as_array.ensures.cases.same c.as_chunks.ensures.front (omega (arith, one.front_len)))
     whole c.in_ok-as_array-2.ensures.cases.same
     (cut_as 4 g.row.PLACES _ _ _ _ c.in_ok-as_array-3.ensures.cases.same c.as_chunks-2.ensures.front (omega (arith, three.front_len)))

@@ -21,8 +21,8 @@ returns-then-line_meets g c =
 pub loop-k-preserved : goal.loop-k-preserved
 loop-k-preserved g c =
     elim c.else-k-but.branch [
-      else-k-but-via-then-k-but+else-line_meets w ↦ line_misses _ _ _ _ _ _ c.if-space.false c.loop-k.auto.k c.loop-k-test.true _ c.loop-k.invariant w.line_meets.ensures w.if-line_meets.false
-    | else-k-but-via-else-k-but w ↦ not_this (sizes g.row.SPACES g.row.PAGES g.row.PLACES) _ _ _ _ c.loop-k.invariant w.if-k-but.false
+      | else-k-but-via-then-k-but+else-line_meets w ↦ line_misses _ _ _ _ _ _ c.if-space.false c.loop-k.auto.k c.loop-k-test.true _ c.loop-k.invariant w.line_meets.ensures w.if-line_meets.false
+      | else-k-but-via-else-k-but w ↦ not_this (sizes g.row.SPACES g.row.PAGES g.row.PLACES) _ _ _ _ c.loop-k.invariant w.if-k-but.false
     ]
 
 pub returns : goal.returns

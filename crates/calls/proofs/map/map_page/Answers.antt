@@ -1,60 +1,68 @@
-use Rattle.std.proofs.Common.{rules, ◌≡◌, ℕ, ◌+◌, ◌-◌, ◌*◌, ◌<◌, ◌≤◌, length, ◌/◌, ◌%◌, Bool, true, false, nat_eq, nat_lt, List, [], ◌∷◌, ◌++◌, slice_index_or, slice_set, bit_and, bit_or, Fits, w8, w32, w64, Bor, MutBor}
-use Rattle.lend.specs.Tables.{alone}
-use Rattle.lend.specs.Sound.{Sound}
-use Rattle.lend.specs.Calls.{Map, step}
-use Rattle.board.specs.Model.{sizes}
-use Rattle.board.specs.Board.{tables}
-use Rattle.calls.specs.Answer.{outcome}
+-- `map_page` meets its contract: refused by the first checks or the second, or else what both have shown makes it the map of the rules.
+use mathlib.Core.Path.{◌∙◌}
+use native.Mathlib.Omega.{arith}
+use Prim.Native.Nat.{◌<◌}
+use borrow.Author.Rules.{rules}
+use Rattle.std.proofs.lemmas.Result.{err_from_is_err_and}
+use Rattle.lend_code.proofs.LendingNumbers.{taker_in}
+use Rattle.calls.proofs.PairCalls.{few_slots, map_err, map_shows, map_err_lines, map_made}
 use Rattle.calls.proofs.map.map_page.Goals as goal
 
--- src/map.rt:33:5
 pub returns-in_err-check_named : goal.returns-in_err-check_named
-returns-in_err-check_named g c = ?
+returns-in_err-check_named g c =
+    let p = err_from_is_err_and c.from_residual.result c.from_residual.ensures.1 in
+    rw (p.1, p.2) (map_err _ (few_slots c.args.b.now.shape.is_model) _ c.requires _ _ _ _ _ _ c.in_err-check_named.ensures)
 
--- src/map.rt:34:17
 pub overflow_cast-asked : goal.overflow_cast-asked
-overflow_cast-asked g c = ?
+overflow_cast-asked g c =
+    omega (arith, (map_shows _ (few_slots c.args.b.now.shape.is_model) _ c.requires _ _ _ _ _ c.in_ok-check_named.ensures).known_rights)
 
--- src/map.rt:35:29
 pub overflow_cast-from : goal.overflow_cast-from
-overflow_cast-from g c = ?
+overflow_cast-from g c =
+    omega (arith, (map_shows _ (few_slots c.args.b.now.shape.is_model) _ c.requires _ _ _ _ _ c.in_ok-check_named.ensures).giver_space, c.args.b.now.shape.is_model.few_spaces)
 
--- src/map.rt:35:41
 pub overflow_cast-page : goal.overflow_cast-page
-overflow_cast-page g c = ?
+overflow_cast-page g c =
+    omega (arith, (map_shows _ (few_slots c.args.b.now.shape.is_model) _ c.requires _ _ _ _ _ c.in_ok-check_named.ensures).giver_page, c.args.b.now.shape.is_model.few_pages)
 
--- src/map.rt:36:29
 pub overflow_cast-to : goal.overflow_cast-to
-overflow_cast-to g c = ?
+overflow_cast-to g c =
+    omega (arith, (map_shows _ (few_slots c.args.b.now.shape.is_model) _ c.requires _ _ _ _ _ c.in_ok-check_named.ensures).taker_space, c.args.b.now.shape.is_model.few_spaces)
 
--- src/map.rt:36:39
 pub overflow_cast-at : goal.overflow_cast-at
-overflow_cast-at g c = ?
+overflow_cast-at g c =
+    omega (arith, (map_shows _ (few_slots c.args.b.now.shape.is_model) _ c.requires _ _ _ _ _ c.in_ok-check_named.ensures).taker_page, c.args.b.now.shape.is_model.few_pages)
 
--- src/map.rt:38:5
 pub returns-in_err-check_lines : goal.returns-in_err-check_lines
-returns-in_err-check_lines g c = ?
+returns-in_err-check_lines g c =
+    let p = err_from_is_err_and c.from_residual-in_err-check_lines.result c.from_residual-in_err-check_lines.ensures.1 in
+    rw (p.1, p.2)
+    (map_err_lines _ (few_slots c.args.b.now.shape.is_model) _ c.requires _ _ _ _ _ c.in_ok-check_named.ensures _ _ c.key-giver.ensures c.key-taker.ensures
+    _ _ c.only-taker_alone.ensures c.line_has-under_taker.ensures _ c.in_err-check_lines.ensures)
 
--- src/map.rt:41:26
 pub overflow_cast-lent : goal.overflow_cast-lent
-overflow_cast-lent g c = ?
+overflow_cast-lent g c =
+    omega (arith, (map_shows _ (few_slots c.args.b.now.shape.is_model) _ c.requires _ _ _ _ _ c.in_ok-check_named.ensures).giver_space, c.args.b.now.shape.is_model.few_spaces)
 
--- src/map.rt:41:38
 pub overflow_cast-lent-2 : goal.overflow_cast-lent-2
-overflow_cast-lent-2 g c = ?
+overflow_cast-lent-2 g c =
+    omega (arith, (map_shows _ (few_slots c.args.b.now.shape.is_model) _ c.requires _ _ _ _ _ c.in_ok-check_named.ensures).giver_page, c.args.b.now.shape.is_model.few_pages)
 
--- src/map.rt:44:5
 pub link-requires : goal.link-requires
-link-requires g c = ?
+link-requires g c =
+    let inside : c.key-taker.result < g.row.SLOTS =
+    omega (arith, c.key-taker.ensures, taker_in (map_shows _ (few_slots c.args.b.now.shape.is_model) _ c.requires _ _ _ _ _ c.in_ok-check_named.ensures), c.args.b.now.shape.is_model.slots_are)
+    in search rules
 
--- src/map.rt:45:27
 pub overflow_cast-to-2 : goal.overflow_cast-to-2
-overflow_cast-to-2 g c = ?
+overflow_cast-to-2 g c =
+    omega (arith, (map_shows _ (few_slots c.args.b.now.shape.is_model) _ c.requires _ _ _ _ _ c.in_ok-check_named.ensures).taker_space, c.args.b.now.shape.is_model.few_spaces)
 
--- src/map.rt:45:37
 pub overflow_cast-at-2 : goal.overflow_cast-at-2
-overflow_cast-at-2 g c = ?
+overflow_cast-at-2 g c =
+    omega (arith, (map_shows _ (few_slots c.args.b.now.shape.is_model) _ c.requires _ _ _ _ _ c.in_ok-check_named.ensures).taker_page, c.args.b.now.shape.is_model.few_pages)
 
--- src/map.rt:17:1
 pub returns : goal.returns
-returns g c = ?
+returns g c =
+    map_made _ (few_slots c.args.b.now.shape.is_model) _ c.requires _ _ _ _ _ c.in_ok-check_named.ensures _ _ c.key-giver.ensures c.key-taker.ensures
+    _ _ c.only-taker_alone.ensures c.line_has-under_taker.ensures c.in_ok-check_lines.ensures _ _ _ _ c.link.ensures c.rights-before.ensures c.settle.ensures.board c.settle.ensures.emptied

@@ -2,7 +2,6 @@
 use native.Mathlib.Omega.{arith}
 use Rattle.std.proofs.lemmas.Result.{err_from_is_err_and}
 use Rattle.lend_code.proofs.Calls.{named_in}
-use Rattle.board.specs.Model.{sizes}
 use Rattle.calls.proofs.PageCalls.{unmap_refused, unmap_named, unmap_made}
 use Rattle.calls.proofs.unmap.unmap_page.Goals as goal
 

@@ -1,5 +1,5 @@
 -- `first_refusal` meets its contract: the goals that are left, from the invariant.
-use Rattle.std.proofs.Common.{◌≡◌, sym, ap, ◌∙◌}
+use Rattle.std.proofs.Common.{sym, ap, ◌∙◌}
 use Rattle.std.proofs.Math.ListN.{drop_of_length-le}
 use Rattle.lend.specs.Refusals.{first_of}
 use Rattle.lend.proofs.Refusals.{first_holds, first_passed}

@@ -1,0 +1,2 @@
+mod Finished
+mod Widened
