@@ -69,7 +69,7 @@ fn run_read<const SPACES: usize, const PAGES: usize, const SLOTS: usize, const P
     input: &[u8],
     out: &mut Writer<'_>,
 )
-    ensures { out.new ≡ writes out.old (output_by (sizes SPACES PAGES PLACES) (answer (sizes SPACES PAGES PLACES) read) input.now) }
+    ensures { out.new ≡ writes out.old (output_by (sizes SPACES PAGES PLACES) (answer (sizes SPACES PAGES PLACES) read.entry) input.now) }
 {
     match read {
         Ok(mut b) => run_lines(&mut b, first(input), out),
