@@ -1,6 +1,7 @@
 // A script run into a lent buffer, for every input and every buffer: from the start board, or from the board of a listing.
 ghost use Rattle.std.specs.Prelude.{◌≡◌, ◌≤◌, length, take};
 ghost use Rattle.text.specs.Writer.{writes};
+ghost use Rattle.listing.specs.Read.{reading};
 ghost use Rattle.script.specs.Script.{input_limit, output_of};
 ghost use Rattle.script.specs.From.{output_by};
 ghost use Rattle.script.specs.Bound.{output_bound};
@@ -69,12 +70,22 @@ fn run_read<const SPACES: usize, const PAGES: usize, const SLOTS: usize, const P
     input: &[u8],
     out: &mut Writer<'_>,
 )
-    ensures { out.new ≡ writes out.old (output_by (sizes SPACES PAGES PLACES) (answer (sizes SPACES PAGES PLACES) read) input.now) }
+    ensures { out.new ≡ writes out.old (output_by (sizes SPACES PAGES PLACES) (answer (sizes SPACES PAGES PLACES) read.entry) input.now) }
 {
     match read {
         Ok(mut b) => run_lines(&mut b, first(input), out),
         Err(refusal) => out.refused(u32::from(refusal)),
     }
+}
+
+// The board of a listing, of which no more bytes are read than of an input, or what refuses it.
+fn read_first<const SPACES: usize, const PAGES: usize, const SLOTS: usize, const PLACES: usize>(
+    shape: Shape<SPACES, PAGES, SLOTS, PLACES>,
+    listing: &[u8],
+) -> Result<Board<SPACES, PAGES, SLOTS, PLACES>, Refusal>
+    ensures { answer (sizes SPACES PAGES PLACES) result ≡ reading (sizes SPACES PAGES PLACES) (take input_limit listing.now) }
+{
+    read_listing(shape, first(listing))
 }
 
 // Runs the script from the board of a listing, in a buffer of the same length.
@@ -90,6 +101,6 @@ pub fn run_from<const SPACES: usize, const PAGES: usize, const SLOTS: usize, con
         return 0;
     }
     let mut out = Writer::new(output);
-    run_read(read_listing(shape, first(listing)), input, &mut out);
+    run_read(read_first(shape, listing), input, &mut out);
     out.at()
 }

@@ -1,7 +1,6 @@
 -- `first` meets its contract: a slice that is read whole, and the first part of a longer one.
-use Rattle.entry_script.proofs as own
 use Rattle.script.proofs.Parts.{first_of}
-use own.run.first.Goals as goal
+use Rattle.session.proofs.run.first.Goals as goal
 
 pub returns : goal.returns
 returns c =
