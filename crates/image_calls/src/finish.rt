@@ -1,11 +1,11 @@
 // The last part of every call.
 ghost use Rattle.std.specs.Prelude.{◌≡◌, []};
 ghost use Rattle.lend.specs.Refusals.{answer_of};
-ghost use Rattle.image.specs.Answered.{left, finishing, range_finishing};
+ghost use Rattle.image.specs.Answered.{left, finishing};
 ghost use Rattle.board.specs.Model.{sizes};
 ghost use Rattle.board.specs.Board.{tables};
 ghost use Rattle.calls.specs.Progress.{range_outcome};
-ghost use Rattle.image_calls.specs.Fields.{fields_of};
+ghost use Rattle.image_calls.specs.Fields.{fields_of, range_finished};
 
 use board::Board;
 use board_image::write::write_image;
@@ -24,7 +24,7 @@ pub(crate) fn finish<
     answer: Result<(u32, u32, u32), Refusal>,
     out: &mut [u32; 4],
 ) -> u32
-    ensures { left result image.new [] out.new ≡ finishing (sizes SPACES PAGES PLACES) (tables b.now) (answer_of answer) (fields_of answer).0 (fields_of answer).1.0 (fields_of answer).1.1 image.old }
+    ensures { left result image.new [] out.new ≡ finishing (sizes SPACES PAGES PLACES) (tables b.now) (answer_of answer) (fields_of answer).0 (fields_of answer).1 (fields_of answer).2 image.old }
 {
     match answer {
         Ok((first, second, third)) => {
@@ -51,7 +51,7 @@ pub(crate) fn finish_range<
     answer: Result<Progress, Refusal>,
     out: &mut [u32; 4],
 ) -> u32
-    ensures { left result image.new [] out.new ≡ range_finishing (sizes SPACES PAGES PLACES) (tables b.now) (range_outcome (sizes SPACES PAGES PLACES) answer (tables b.now)).number (range_outcome (sizes SPACES PAGES PLACES) answer (tables b.now)).done (range_outcome (sizes SPACES PAGES PLACES) answer (tables b.now)).offset (range_outcome (sizes SPACES PAGES PLACES) answer (tables b.now)).emptied image.old }
+    ensures { left result image.new [] out.new ≡ range_finished (sizes SPACES PAGES PLACES) (range_outcome (sizes SPACES PAGES PLACES) answer (tables b.now)) image.old }
 {
     let (number, fields) = match answer {
         Ok(run) => match run.refused {
