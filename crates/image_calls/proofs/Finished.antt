@@ -1,7 +1,8 @@
 -- The last part of a call, by what the call on the board answered.
 use Prim.Native.Nat.{ℕ}
 use mathlib.Core.Path.{◌≡◌, refl, sym, ap, ◌∙◌}
-use mathlib.Core.Bool.{cond}
+use mathlib.Core.Bool.{Bool, true, false, not, cond}
+use mir.Val.{bool_byte}
 use mathlib.Core.List.{List, []}
 use Rattle.std.specs.Result.{IsOkAnd, MatchResult}
 use Rattle.std.specs.declared.result.Result.{Result}
@@ -72,6 +73,11 @@ found_number (Err r) = refl
 pub found_told : (r : Result Translation Refusal) → three (fields_of (filled found_fields r)) ≡ three_of (translation_reply r).address (cond (translation_reply r).hit 1 0) (translation_reply r).links
 found_told (Ok x) = refl
 found_told (Err r) = refl
+
+-- the number of start
+pub other_length : (b : Bool) → bool_byte (not b) ≡ cond b 0 1
+other_length true = refl
+other_length false = refl
 
 -- ── calls over ranges ────────────────────────────────────────────────────
 -- the number and the out fields of an outcome

@@ -1,16 +1,18 @@
-use Rattle.std.proofs.Common.{rules, ◌≡◌, [], ℕ, ◌+◌, ◌-◌, ◌*◌, ◌<◌, ◌≤◌, length, ◌/◌, ◌%◌, Bool, true, false, nat_eq, nat_lt, List, ◌∷◌, ◌++◌, slice_index_or, slice_set, bit_and, bit_or, Fits, w8, w32, w64, Bor, MutBor}
-use Rattle.image.specs.Answered.{left, frame_answer}
+-- `frame` meets its contract.
 use Rattle.board.specs.Model.{sizes}
+use native.Mathlib.Omega.{arith}
+use Rattle.std.proofs.Common.{rules}
+use Rattle.image.proofs.Answered.{frame_unsound, frame_past, frame_told}
 use Rattle.image_calls.proofs.frame.frame.Goals as goal
 
--- src/frame.rt:22:9
 pub returns-then-not-sound : goal.returns-then-not-sound
-returns-then-not-sound g c = ?
+returns-then-not-sound g c = rw c.from.ensures (frame_unsound (sizes g.row.SPACES g.row.PAGES g.row.PLACES) _ _ c.read_image-b.ensures c.sound.ensures.as_test c.if-not-sound.true)
 
--- src/frame.rt:26:9
 pub returns-then-i : goal.returns-then-i
-returns-then-i g c = ?
+returns-then-i g c = rw c.from-then-i.ensures (frame_past (sizes g.row.SPACES g.row.PAGES g.row.PLACES) _ _ c.read_image-b.ensures c.sound.ensures.as_test c.if-not-sound.false c.if-i.true)
 
--- src/frame.rt:11:1
 pub returns : goal.returns
-returns g c = ?
+returns g c =
+    let each = c.map.ensures.items.at 0 0 0 (omega arith) in
+    let t = frame_told (sizes g.row.SPACES g.row.PAGES g.row.PLACES) _ _ c.read_image-b.ensures c.sound.ensures.as_test c.if-not-sound.false c.if-i.false in
+    ?

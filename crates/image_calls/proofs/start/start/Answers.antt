@@ -1,8 +1,15 @@
-use Rattle.std.proofs.Common.{rules, ◌≡◌, [], ℕ, ◌+◌, ◌-◌, ◌*◌, ◌<◌, ◌≤◌, length, ◌/◌, ◌%◌, Bool, true, false, nat_eq, nat_lt, List, ◌∷◌, ◌++◌, slice_index_or, slice_set, bit_and, bit_or, Fits, w8, w32, w64, Bor, MutBor}
-use Rattle.image.specs.Answered.{left, start_answer, sound_number}
+-- `start` meets its contract.
+use mathlib.Core.Path.{◌∙◌, ap}
+use Prim.Native.Nat.{ℕ}
+use lib.Dec.{eqb}
+use mathlib.Core.Bool.{cond}
+use lib.ListN.{length}
 use Rattle.board.specs.Model.{sizes}
+use Rattle.image.proofs.Answered.{started}
+use Rattle.image_calls.proofs.Finished.{other_length}
 use Rattle.image_calls.proofs.start.start.Goals as goal
 
--- src/start.rt:13:1
 pub returns : goal.returns
-returns g c = ?
+returns g c =
+    let number = c.from.ensures ∙ (other_length _ ∙ ap (λ (n : ℕ). cond (eqb (length c.args.image.now) n) 0 1) c.image_bytes.ensures) in
+    started (sizes g.row.SPACES g.row.PAGES g.row.PLACES) _ _ _ _ number c.start.ensures c.write_image.ensures
