@@ -1,8 +1,9 @@
 -- `frame` meets its contract.
 use Rattle.board.specs.Model.{sizes}
-use native.Mathlib.Omega.{arith}
+use mathlib.Core.Path.{refl}
 use Rattle.std.proofs.Common.{rules}
 use Rattle.image.proofs.Answered.{frame_unsound, frame_past, frame_told}
+use Rattle.image_calls.proofs.Widened.{widened}
 use Rattle.image_calls.proofs.frame.frame.Goals as goal
 
 pub returns-then-not-sound : goal.returns-then-not-sound
@@ -13,6 +14,5 @@ returns-then-i g c = rw c.from-then-i.ensures (frame_past (sizes g.row.SPACES g.
 
 pub returns : goal.returns
 returns g c =
-    let each = c.map.ensures.items.at 0 0 0 (omega arith) in
-    let t = frame_told (sizes g.row.SPACES g.row.PAGES g.row.PLACES) _ _ c.read_image-b.ensures c.sound.ensures.as_test c.if-not-sound.false c.if-i.false in
-    ?
+    let out-is = widened _ _ _ _ 4 (λ p x y q k. search rules) c.map.ensures.items refl in
+    rw out-is (frame_told (sizes g.row.SPACES g.row.PAGES g.row.PLACES) _ _ c.read_image-b.ensures c.sound.ensures.as_test c.if-not-sound.false c.if-i.false)
