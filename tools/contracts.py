@@ -34,14 +34,18 @@ VIEWS = {
     'loaded': ('r exit entry', *MODEL, 'one_load'),
     'stored': ('r exit exit', *MODEL, 'one_store'),
     'answer_of': ('r', *MODEL, 'one_check'),
-    'answer': ('r', *LISTED, 'one_read'),
+    'answer': ('sizes r', *LISTED, 'one_read'),
     'filled': ('r exit', *LISTED, 'one_written'),
     'listed': ('r exit exit', 'listing_image', 'Listed', 'one_listed'),
     # the memory of a call that has none is the empty list; the image of a call that only reads it is lent for reading
     'left': ('r (entry|exit) (entry|exit|none) exit', *MODEL, 'one_left'),
+    # a number, and the bytes behind the reference that is handed back with it
+    'read_off': ('r( behind)?', 'text', 'Reading', 'one_read_off'),
     # what was lent to a function, as it is
     '≡': ('exit', *MODEL, 'one_value'),
 }
+# views that show what stands behind a reference that is handed back
+BEHIND = {'read_off'}
 # a view that determines a result only beside another one, whose theorem takes both; of a result with no value in it, alone
 BESIDE = {'answer_of': 'range_outcome'}
 NO_VALUE = 'Result<(), Refusal>'
@@ -227,7 +231,7 @@ def missing(crate, head, lent, found, holds):
     elif head.result and 'r' not in what:
         yield from (f'the field {f} of its result' for f in fields(crate, head.result) if f not in given) if given else ['its result']
     yield from (f'what it leaves in {p}' for p in lent if p not in what)
-    if holds and ITSELF not in [view for _, _, view in found]:
+    if holds and not {view for _, _, view in found} & {ITSELF, *BEHIND}:
         yield 'what it hands back by reference'
 
 

@@ -7,7 +7,7 @@ ghost use Rattle.board.specs.Board.{tables};
 
 use board::Board;
 use board::shape::PAGE_BYTES;
-use lend::{Refusal, first_refusal};
+use lend::{Refusal, bad_rights, first_refusal};
 
 // Of an access for these rights: fits is whether memory has its length, true where there is none.
 pub(crate) fn check_access<
@@ -34,7 +34,7 @@ pub(crate) fn check_access<
         (SPACES <= s, Refusal::NoSpace),
         (!b.is_live(s), Refusal::NotLive),
         (PAGE_BYTES * PAGES <= a, Refusal::NoPage),
-        (!(1..=7).contains(&rights), Refusal::BadRights),
+        (bad_rights(rights), Refusal::BadRights),
         (!slot.is_held(), Refusal::NotHeld),
         (!has_all, Refusal::MissingRights),
     ])

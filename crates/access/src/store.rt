@@ -23,6 +23,7 @@ pub fn store<const SPACES: usize, const PAGES: usize, const SLOTS: usize, const 
 {
     let fits = memory.len() == PAGE_BYTES * PAGES;
     check_access(b, fits, space, address, 2)?;
+    // In bounds by the check: `as` loses no bit.
     let page = address as usize / PAGE_BYTES;
     let seen = look(b, space as u8, page as u8);
     memory[byte_at(seen.frame, address)] = byte;

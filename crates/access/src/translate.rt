@@ -30,6 +30,7 @@ pub fn translate<const SPACES: usize, const PAGES: usize, const SLOTS: usize, co
     ensures { translated result (tables b.new) ≡ step (sizes SPACES PAGES PLACES) (alone (tables b.old)) (Translate space address rights) }
 {
     check_access(b, true, space, address, rights)?;
+    // In bounds by the check: `as` loses no bit.
     let page = (address as usize / PAGE_BYTES) as u8;
     let seen = look(b, space as u8, page);
     let links = match seen.followed {

@@ -16,4 +16,4 @@ pub record IsModel (spaces pages slots places : ℕ) : Type 0 where
   pub few_spaces : spaces ≤ 16
   pub few_pages : pages ≤ 256
   pub few_slots : slots ≤ 8192
-  pub few_places : places ≤ 256
+  pub few_places : places ≤ 255

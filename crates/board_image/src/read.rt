@@ -122,5 +122,8 @@ pub fn read_image<const SPACES: usize, const PAGES: usize, const SLOTS: usize, c
 ) -> Board<SPACES, PAGES, SLOTS, PLACES>
     ensures { tables result ≡ board_from (sizes SPACES PAGES PLACES) image.now }
 {
-    board_of(shape, image).unwrap_or(no_board(shape))
+    match board_of(shape, image) {
+        Some(b) => b,
+        None => no_board(shape),
+    }
 }

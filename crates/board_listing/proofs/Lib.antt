@@ -1,1 +1,3 @@
+pub mod Readable
+pub mod Examined
 pub mod Unique

@@ -7,7 +7,7 @@ use lib.Dec.{eqb}
 use Rattle.std.specs.declared.result.Result.{Result}
 use Rattle.std.specs.declared.result.Result.TheVariants.{Ok, Err}
 use Rattle.lend.specs.declared.refusal.Refusal.{Refusal}
-use Rattle.lend.specs.Refusals.{refusal_of, refusal_of_number, refusal_not_done, answer_of}
+use Rattle.lend.specs.Refusals.{refusal_of, refusal_of_number, refusal_not_done}
 use Rattle.lend.specs.Sizes.{Sizes}
 use Rattle.listing.specs.Read.{Answer}
 use Rattle.listing.specs.Write.{Written}
@@ -15,9 +15,9 @@ use Rattle.board.specs.declared.Board.{Board}
 use Rattle.board.specs.declared.shape.Shape.{Shape}
 use Rattle.board.specs.Board.{tables, board_of}
 use Rattle.board.proofs.Boards.{same_board}
-use Rattle.board_listing.specs.Answer.{answer, filled, length_of}
+use Rattle.board_listing.specs.Answer.{answer, filled}
 
-pub written_of : Written → Result ℕ Refusal
+abbrev pub written_of : Written → Result ℕ Refusal
 written_of w = cond (eqb w.number 0) (Ok w.count) (Err (refusal_of w.number))
 
 pub written_of_filled : (r : Result ℕ Refusal) (out : List ℕ) → written_of (filled r out) ≡ r
@@ -29,7 +29,7 @@ one_written r s {out = out} {out' = out'} e =
     (sym (written_of_filled r out) ∙ (ap written_of e ∙ written_of_filled s out'), ap (λ (w : Written). w.held) e)
 
 module _ {spaces pages slots places : ℕ} (shape : Shape spaces pages slots places) (z : Sizes) where
-  pub read_of : Answer → Result (Board spaces pages slots places) Refusal
+  abbrev pub read_of : Answer → Result (Board spaces pages slots places) Refusal
   read_of a = cond (eqb a.number 0) (Ok (board_of shape a.board)) (Err (refusal_of a.number))
 
   pub read_of_answer : (r : Result (Board spaces pages slots places) Refusal) → read_of (answer z r) ≡ r

@@ -16,7 +16,7 @@ pub(crate) fn live_number<
 {
     let mut n: u32 = 0;
     for &is in live.iter().rev() {
-        n = 2 * n + u32::from(is);
+        n = u32::from(is) + 2 * n;
     }
     n
 }

@@ -1,6 +1,6 @@
 // A board read from its listing. Any bytes are taken: malformed ones are refused where the first of them is found, disorder and an
 // unsound board at the end.
-ghost use Rattle.std.specs.Prelude.{◌≡◌, T};
+ghost use Rattle.std.specs.Prelude.{◌≡◌, T, true};
 ghost use Rattle.listing.specs.Content.{row_key, row_slot, board_with};
 ghost use Rattle.listing.specs.Read.{judged as judged_of, reading, row_in, row_fits, fitting};
 ghost use Rattle.listing.specs.Loop.{read_from};
@@ -25,16 +25,17 @@ fn board_with<const SPACES: usize, const PAGES: usize, const SLOTS: usize, const
 {
     let mut b = start(shape);
     b.slots = *slots;
-    b.live = live_flags(shape, live);
+    let live = live_flags(shape, live);
+    b.live = live;
     let pages = b.examine();
     judged(true, ordered, pages.is_some())?;
-    if let Some(pages) = pages {
-        b.summary = pages.counts;
-    }
+    let counts = pages.ok_or(Refusal::Unsound)?.counts;
+    b.summary = counts;
     Ok(b)
 }
 
 // Whether every number of the row is in its field.
+#[tactic(auto, unfolding(listing::specs::Read::row_fits))]
 fn row_fits<const SPACES: usize, const PAGES: usize, const SLOTS: usize, const PLACES: usize>(
     _shape: Shape<SPACES, PAGES, SLOTS, PLACES>,
     row: Row,
@@ -92,13 +93,14 @@ fn read_from<const SPACES: usize, const PAGES: usize, const SLOTS: usize, const 
     let mut last: usize = 0;
     let mut count: usize = 0;
     let mut from = at;
+    // No `split` at newlines: it does not tell whether the last line ends with one.
     while from < text.len() {
         let end = line_end(text, from);
         if text.len() <= end + 1 {
             let held = held_line(&text[from..end], (SLOTS - PAGES) as u32).ok_or(
                 Refusal::MalformedListing,
             )?;
-            return board_with(shape, rising && count == held as usize, &slots, live);
+            return board_with(shape, rising & (count == held as usize), &slots, live);
         }
         let row = row_of(shape, &text[from..end]).ok_or(Refusal::MalformedListing)?;
         let k = shape.key(row.space as u8, row.page as u8);

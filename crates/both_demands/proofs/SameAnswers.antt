@@ -5,9 +5,12 @@ use mathlib.Core.Bool.{not}
 use mathlib.Core.List.{List, [], ◌++◌}
 use lib.Dec.{T, lit<, T_not}
 use lib.ListN.{length}
+use Rattle.std.specs.declared.result.Result.{Result}
+use Rattle.lend.specs.declared.refusal.Refusal.{Refusal}
 use Rattle.lend.specs.Sizes.{entry, premium}
 use Rattle.lend.specs.Tables.{Tables, State, alone}
 use Rattle.lend.specs.Sound.{Sound}
+use Rattle.lend.specs.Refusals.{answer_of}
 use Rattle.lend.specs.Calls.{Call, Translate, Load, Store, Outcome, step}
 use Rattle.lend.specs.Ranges.{RangeCall, RangeOutcome, range_step}
 use Rattle.lend_lending.proofs.Always.{step_sound}
@@ -18,10 +21,6 @@ use Rattle.lend_models.specs.RangeAgreement.{range_in_limits, RangeAgree}
 use Rattle.lend_models.proofs.Wide.{entry_fits}
 use Rattle.lend_models.proofs.SameCommand.{same_command}
 use Rattle.lend_models.proofs.SameRange.{same_range}
-use Rattle.std.specs.declared.result.Result.{Result}
-use Rattle.std.specs.declared.result.Result.TheVariants.{Ok}
-use Rattle.lend.specs.declared.refusal.Refusal.{Refusal}
-use Rattle.lend.specs.Refusals.{answer_of}
 use Rattle.board.specs.Board.{tables}
 use Rattle.calls.specs.declared.progress.Progress.{Progress}
 use Rattle.calls.specs.Answer.{outcome, emptied_of}

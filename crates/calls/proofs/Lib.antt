@@ -3,6 +3,7 @@ mod Others
 mod PageCalls
 mod PairCalls
 mod RangeChecks
+mod RangeRuns
 mod Refused
 mod Spaces
 mod Starts

@@ -1,9 +1,6 @@
 // What refuses a call by the numbers that it names, in the order of the table.
 ghost use Rattle.std.specs.Prelude.{◌≡◌, IfOk, Some, cond};
-ghost use Rattle.lend.specs.Numbers.{first_number, bad_rights};
-ghost use Rattle.lend.specs.Tables.{alone};
 ghost use Rattle.lend.specs.Refusals.{answer_of};
-ghost use Rattle.lend.specs.Calls.{Create, Delete, cases, number as number_of};
 ghost use Rattle.lend.specs.Ranges.{range_of};
 ghost use Rattle.lend_code.specs.Inner.{page_checks};
 ghost use Rattle.lend_code.specs.Lending.{named_checks};
@@ -14,14 +11,7 @@ ghost use Rattle.board.specs.Range.{range_meant};
 
 use board::Board;
 use board::range::Range;
-use lend::{Refusal, first_refusal};
-
-// Whether a call can't ask for these rights: none, or more than there are.
-pub(crate) fn bad_rights(rights: u32) -> bool
-    ensures { result ≡ bad_rights rights }
-{
-    !(1..=7).contains(&rights)
-}
+use lend::{Refusal, bad_rights, first_refusal};
 
 // Of a call that names a page and rights, on a sound board; shut tells whether 9 applies.
 pub(crate) fn check_page<

@@ -28,6 +28,7 @@ pub(crate) fn flush_page<
     ensures { outcome result (tables b.new) ≡ step (sizes SPACES PAGES PLACES) (alone (tables b.old)) (Flush space page rights) }
 {
     check_page(b, space, page, rights, space == 0)?;
+    // The check has bounded these numbers, so that `as` loses no bit; a `try_from` would have an arm that no input reaches.
     let y = b.shape.key(space as u8, page as u8);
     let losing = b.line_has(&b.shape.only(y));
     let frame = b.lookup(y).frame;

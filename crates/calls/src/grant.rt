@@ -39,20 +39,15 @@ pub(crate) fn grant_page<
     ensures { outcome result (tables b.new) ≡ step (sizes SPACES PAGES PLACES) (alone (tables b.old)) (Grant from page to at rights) }
 {
     check_named(b, from, page, to, at, rights, (to == 0) | (from == 0))?;
+    // The check has bounded these numbers, so that `as` loses no bit; a `try_from` would have an arm that no input reaches.
     let asked = rights as u8;
     let giver = b.shape.key(from as u8, page as u8);
     let taker = b.shape.key(to as u8, at as u8);
     let kept = b.slots[giver].link;
     let taker_alone = b.shape.only(taker);
     let under_taker = b.line_has(&taker_alone);
-    check_lines(
-        b,
-        &under_taker,
-        giver,
-        source_of(b.shape, kept, giver),
-        taker,
-        asked,
-    )?;
+    let source = source_of(b.shape, kept, giver);
+    check_lines(b, &under_taker, giver, source, taker, asked)?;
     let before = b.rights();
     let frame = b.lookup(giver).frame;
     let granted = Slot {

@@ -31,6 +31,7 @@ pub(crate) fn map_page<
     ensures { outcome result (tables b.new) ≡ step (sizes SPACES PAGES PLACES) (alone (tables b.old)) (Map from page to at rights) }
 {
     check_named(b, from, page, to, at, rights, to == 0)?;
+    // The check has bounded these numbers, so that `as` loses no bit; a `try_from` would have an arm that no input reaches.
     let asked = rights as u8;
     let giver = b.shape.key(from as u8, page as u8);
     let taker = b.shape.key(to as u8, at as u8);

@@ -28,6 +28,7 @@ pub(crate) fn unmap_page<
     ensures { outcome result (tables b.new) ≡ step (sizes SPACES PAGES PLACES) (alone (tables b.old)) (Unmap space page rights) }
 {
     check_page(b, space, page, rights, false)?;
+    // The check has bounded these numbers, so that `as` loses no bit; a `try_from` would have an arm that no input reaches.
     let y = b.shape.key(space as u8, page as u8);
     let mut losing = b.line_has(&b.shape.only(y));
     losing[y] = false;

@@ -3,7 +3,7 @@ use mathlib.Core.Path.{◌≡◌, refl, sym, ap, ◌∙◌}
 use mathlib.Core.List.{List}
 use Prim.Native.Nat.{ℕ}
 use lib.Dec.{T}
-use Rattle.lend.specs.Tables.{Tables, State, alone}
+use Rattle.lend.specs.Tables.{State, alone}
 use Rattle.lend.specs.Sound.{Sound}
 use Rattle.lend.specs.Calls.{Call, Outcome, steps}
 use Rattle.lend_demands.specs.Demand3.{all_withdraw, end_board}
@@ -26,7 +26,7 @@ module _ {spaces pages slots places : ℕ} where
   pub demand_3_for_code : {b e : Board spaces pages slots places} {cs : List Call} → Sound (sizes spaces pages places) (tables b) → T (all_withdraw cs)
       → Chain b cs e → tables e ≡ end_board (sizes spaces pages places) (tables b) cs
   demand_3_for_code {b = b} {cs = cs} sound w chain =
-      ap (λ (x : State). x.board) (sym (chain_steps chain) ∙ demand_3 (sizes spaces pages places) b.shape.is_model.two_spaces cs w (alone (tables b)) sound)
+      ap (λ (x : State). x.board) (sym (chain_steps chain) ∙ demand_3 (sizes spaces pages places) b.shape.is_model.some_pages cs w (alone (tables b)) sound)
 
   -- two such sequences from one board with the same calls, in any order and any number of times each, end at the same board
   pub same_end_for_code : {b d e : Board spaces pages slots places} {cs ds : List Call} → Sound (sizes spaces pages places) (tables b)
@@ -34,4 +34,4 @@ module _ {spaces pages slots places : ℕ} where
   same_end_for_code {b = b} {d = d} {e = e} {cs = cs} {ds = ds} sound w v h g x y =
       same_board d e
       (ap (λ (s : State). s.board)
-      (sym (chain_steps x) ∙ (same_calls_same_end (sizes spaces pages places) b.shape.is_model.two_spaces cs ds w v h g (alone (tables b)) sound ∙ chain_steps y)))
+      (sym (chain_steps x) ∙ (same_calls_same_end (sizes spaces pages places) b.shape.is_model.some_pages cs ds w v h g (alone (tables b)) sound ∙ chain_steps y)))

@@ -1,3 +1,4 @@
+pub mod Models
 pub mod Chain
 pub mod Unique
 pub mod RangeChain

@@ -2,7 +2,7 @@
 use Prim.Native.Nat.{ℕ}
 use mathlib.Core.Path.{◌≡◌, refl, sym, ap, ◌∙◌}
 use Rattle.std.specs.declared.result.Result.{Result}
-use Rattle.std.specs.declared.result.Result.TheVariants.{Ok, Err}
+use Rattle.std.specs.declared.result.Result.TheVariants.{Ok}
 use Rattle.lend.specs.declared.refusal.Refusal.{Refusal}
 use Rattle.lend.specs.Tables.{alone}
 use Rattle.lend.specs.Calls.{Translate, Outcome, number, step}

@@ -3,7 +3,7 @@ use mathlib.Core.Path.{◌≡◌, ap, ◌∙◌}
 use Prim.Native.Nat.{ℕ}
 use Rattle.std.specs.declared.result.Result.{Result}
 use Rattle.lend.specs.declared.refusal.Refusal.{Refusal}
-use Rattle.lend.specs.Tables.{Tables, State, alone}
+use Rattle.lend.specs.Tables.{State, alone}
 use Rattle.lend.specs.Ranges.{RangeCall, RangeOutcome, range_number, range_step}
 use Rattle.lend_demands.specs.RangeSteps.{page_calls}
 use Rattle.lend_demands.proofs.RangeSteps.{range_steps}

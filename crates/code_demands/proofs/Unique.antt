@@ -17,7 +17,6 @@ use Rattle.lend.specs.Calls.{Outcome}
 use Rattle.lend.specs.Ranges as rules
 use Rattle.lend.specs.Ranges.{RangeOutcome}
 use Rattle.lend_basics.proofs.Unique.{one_result}
-use Rattle.lend_code.specs.Access.{Look}
 use Rattle.image.specs.Answered.{Left, left}
 use Rattle.board.specs.declared.lines.Lookup.{Lookup}
 use Rattle.board.specs.declared.range.Range.{Range}
@@ -29,8 +28,7 @@ use Rattle.calls.specs.declared.progress.Progress.{Progress}
 use Rattle.calls.specs.Answer.{outcome, emptied_of}
 use Rattle.calls.specs.Progress.{refused_number, refused_offset, range_outcome, range_state}
 use Rattle.access.specs.declared.translate.Translation.{Translation}
-use Rattle.access.specs.declared.look.Seen.{Seen}
-use Rattle.access.specs.Answers.{translated, byte_of, loaded, stored, was_hit, links_followed, seen}
+use Rattle.access.specs.Answers.{translated, byte_of, loaded, stored}
 
 module _ {spaces pages slots places : ℕ} where
   -- a function whose contract is `tables r ≡ ..`
@@ -55,9 +53,11 @@ pub answer : {A : Type 0} → ℕ → A → Result A Refusal
 answer n x = cond (eqb n 0) (Ok x) (Err (refusal_of n))
 
 refused_answer : {A : Type 0} (r : Refusal) (x : A) → answer (number_of r) x ≡ Err r
+unfolding answer
 refused_answer r x = rw (refusal_not_done r) (ap Err (refusal_of_number r))
 
 pub answer_of_outcome : (r : Result ℕ Refusal) → answer (answer_of r) (emptied_of r) ≡ r
+unfolding answer
 answer_of_outcome (Ok n) = refl
 answer_of_outcome (Err r) = refused_answer r 0
 
@@ -72,6 +72,7 @@ pub range_back_of : ℕ → RangeOutcome → Result Progress Refusal
 range_back_of first o = answer first (record { done = o.done; refused = cond (eqb o.number 0) None (Some (o.offset, refusal_of o.number)); emptied = o.emptied })
 
 pub range_answer_of_range_outcome : (z : Sizes) (r : Result Progress Refusal) (t : Tables) → range_back_of (answer_of r) (range_outcome z r t) ≡ r
+unfolding range_back_of answer
 range_answer_of_range_outcome z (Ok p) t = ap (λ (x : Option (ℕ × Refusal)). Ok (record { done = p.done; refused = x; emptied = p.emptied })) (at p.refused)
   where
     at : (x : Option (ℕ × Refusal)) → cond (eqb (refused_number x) 0) None (Some (refused_offset z.pages x, refusal_of (refused_number x))) ≡ x
@@ -79,9 +80,9 @@ range_answer_of_range_outcome z (Ok p) t = ap (λ (x : Option (ℕ × Refusal)).
     at (Some y) = rw (refusal_not_done y.1) (ap (λ (r : Refusal). Some (y.0, r)) (refusal_of_number y.1))
 range_answer_of_range_outcome z (Err r) t = refused_answer r _
 
-pub one_range_answer : {z : Sizes} {first : ℕ} {meaning : RangeOutcome} {r s : Result Progress Refusal} {t u : Tables}
+pub one_range_answer : (z : Sizes) {first : ℕ} {meaning : RangeOutcome} {r s : Result Progress Refusal} {t u : Tables}
     → answer_of r ≡ first → range_outcome z r t ≡ meaning → answer_of s ≡ first → range_outcome z s u ≡ meaning → (r ≡ s) × (t ≡ u)
-one_range_answer {z = z} {r = r} {s = s} {t = t} {u = u} f v g w =
+one_range_answer z {r = r} {s = s} {t = t} {u = u} f v g w =
     let e = v ∙ sym w in (
       sym (range_answer_of_range_outcome z r t) ∙ ((λ i. range_back_of ((f ∙ sym g) i) (e i)) ∙ range_answer_of_range_outcome z s u),
       ap (λ (x : State). x.board) (range_state z r t ∙ (ap (λ (o : RangeOutcome). o.state) e ∙ sym (range_state z s u))),
@@ -96,6 +97,7 @@ pub translation_back : Outcome → Result Translation Refusal
 translation_back o = answer o.reply.number (record { address = o.reply.address; hit = o.reply.hit; links = o.reply.links })
 
 pub translated_of_translated : (r : Result Translation Refusal) (t : Tables) → translation_back (translated r t) ≡ r
+unfolding translation_back answer
 translated_of_translated (Ok x) t = refl
 translated_of_translated (Err r) t = refused_answer r _
 
@@ -104,23 +106,9 @@ one_translation {r = r} {s = s} {t = t} {u = u} v w =
     let e = v ∙ sym w in
     (sym (translated_of_translated r t) ∙ (ap translation_back e ∙ translated_of_translated s u), ap (λ (o : Outcome). o.state.board) e)
 
--- a look at a page, whose contract is `seen r (tables b) ≡ ..`
-pub seen_back : Look → Seen
-seen_back l = record { frame = l.frame; followed = cond l.hit None (Some l.links) }
-
-pub seen_of_seen : (s : Seen) (t : Tables) → seen_back (seen s t) ≡ s
-seen_of_seen s t = ap (λ (x : Option ℕ). record { frame = s.frame; followed = x }) (at s.followed)
-  where
-    at : (x : Option ℕ) → cond (was_hit x) None (Some (links_followed x)) ≡ x
-    at None = refl
-    at (Some n) = refl
-
-pub one_look : {meaning : Look} {r s : Seen} {t u : Tables} → seen r t ≡ meaning → seen s u ≡ meaning → (r ≡ s) × (t ≡ u)
-one_look {r = r} {s = s} {t = t} {u = u} v w =
-    let e = v ∙ sym w in (sym (seen_of_seen r t) ∙ (ap seen_back e ∙ seen_of_seen s u), ap (λ (l : Look). l.board) e)
-
 -- load: the memory is lent for reading and is the same
 pub loaded_of_loaded : (r : Result ℕ Refusal) → answer (answer_of r) (byte_of r) ≡ r
+unfolding answer
 loaded_of_loaded (Ok n) = refl
 loaded_of_loaded (Err r) = refused_answer r 0
 
@@ -131,6 +119,7 @@ one_load {r = r} {s = s} v w =
 
 -- store: the answer, the board, and every byte of memory as the call leaves it
 pub stored_of_stored : (r : Result (Unit {0}) Refusal) → answer (answer_of r) tt ≡ r
+unfolding answer
 stored_of_stored (Ok x) = refl
 stored_of_stored (Err r) = refused_answer r tt
 

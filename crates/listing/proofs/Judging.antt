@@ -6,9 +6,11 @@ use mathlib.Core.List.{List}
 use native.Mathlib.Omega.{arith}
 use lib.Dec.{T, eqb, ltb, lt→ltb}
 use lib.ListN.{length, replicate, length-replicate}
-use borrow.Author.Tests.{eq-eqb, ne_eqb}
+use borrow.Author.Tests.{eq-eqb}
 use Rattle.lend.specs.declared.Slot.{Slot}
 use Rattle.lend.specs.declared.Place.{Place}
+use Rattle.lend.specs.declared.refusal.Refusal.{Refusal}
+use Rattle.lend.specs.Refusals.{number_of, refusal_not_done}
 use Rattle.lend.specs.declared.Count.{Count}
 use Rattle.lend.specs.Sizes.{Sizes, slot_count}
 use Rattle.lend.specs.Lists.{every}
@@ -24,7 +26,7 @@ use Rattle.lend_sound.proofs.Start.{start_place}
 use Rattle.lend_sound.proofs.Summary.{test_of_summary}
 use Rattle.listing.specs.Live.{live_flags}
 use Rattle.listing.specs.Content.{board_with}
-use Rattle.listing.specs.Read.{Answer, refused, refusal, by_number, judged}
+use Rattle.listing.specs.Read.{refused, accepted, refusal, by_number, judged}
 use Rattle.listing.proofs.Live.{flags_length}
 
 -- every place of an empty cache is empty
@@ -57,35 +59,33 @@ board_test z slots n one long =
         let h4 = test_of_summary z (slot_at slots) (summary_of z (slot_at slots)) refl in
         search and_i depth 14
 
--- the board of a listing, piece by piece
-board_made : (z : Sizes) (slots : List Slot) (n : ℕ) (live : List Bool) (x : Place) (counts : List Count) → live ≡ live_flags z.spaces n → x ≡ empty_place
+-- the start board with these slots, these live spaces and these counts is the board of a listing
+board_made : (z : Sizes) (slots : List Slot) (n : ℕ) (b : Tables) (live : List Bool) (counts : List Count) → b ≡ start_board z → live ≡ live_flags z.spaces n
     → counts ≡ summary_of z (slot_at slots)
-    → ◌≡◌ {A = Tables} (record { slots = slots; live = live; places = replicate z.places x; next = 0; summary = counts }) (board_with z slots n)
-board_made z slots n live x counts hl hx hc = rw (hl, hx, hc)
+    → ◌≡◌ {A = Tables} (record { slots = slots; live = live; places = b.places; next = b.next; summary = counts }) (board_with z slots n)
+unfolding start_board
+board_made z slots n b live counts hb hl hc = rw (hb, hl, hc) refl
 
--- where no number is against the board, its pages fit
-none_against : (formed ordered fit : Bool) → refusal formed ordered fit ≡ 0 → T fit
+-- where nothing refuses it, its pages fit
+pub none_against : (ordered fit : Bool) → 0 ≡ refusal true ordered fit → T fit
 unfolding refusal
-none_against formed ordered true e = tt
-none_against true true false e = absurd (omega arith)
-none_against true false false e = absurd (omega arith)
-none_against false ordered false e = absurd (omega arith)
+none_against ordered true e = tt
+none_against true false e = absurd (omega arith)
+none_against false false e = absurd (omega arith)
 
--- the number by the tests, and the answer by the number: pages that fit are told as such, with their counts
-module _ (z : Sizes) (one : 1 ≤ z.places) (slots : List Slot) (long : length slots ≡ slot_count z) (formed ordered : Bool) (n : ℕ) {live : List Bool}
-    (l : live ≡ live_flags z.spaces n) {fit : Bool} (t : fit ≡ pages_test z live (slot_at slots)) {number : ℕ} (q : number ≡ refusal formed ordered fit) where
+-- what refuses it by the tests, and the answer by that: pages that fit are told as such, with their counts
+module _ (z : Sizes) (one : 1 ≤ z.places) (slots : List Slot) (long : length slots ≡ slot_count z) (ordered : Bool) (n : ℕ) {live : List Bool}
+    (l : live ≡ live_flags z.spaces n) {fit : Bool} (t : fit ≡ pages_test z live (slot_at slots)) where
   fit_tells : fit ≡ sound_test z (board_with z slots n)
   fit_tells = t ∙ (ap (λ (x : List Bool). pages_test z x (slot_at slots)) l ∙ sym (board_test z slots n one long))
 
-  judged_is : by_number z (board_with z slots n) number ≡ judged z formed ordered (board_with z slots n)
+  judged_is : {number : ℕ} → number ≡ refusal true ordered fit → by_number z (board_with z slots n) number ≡ judged z true ordered (board_with z slots n)
   unfolding judged
-  judged_is = ap (by_number z (board_with z slots n)) (q ∙ ap (refusal formed ordered) fit_tells)
+  judged_is q = ap (by_number z (board_with z slots n)) (q ∙ ap (refusal true ordered) fit_tells)
 
-  pub judged_refused : (number ≡ 0 → ⊥) → refused z number ≡ judged z formed ordered (board_with z slots n)
-  judged_refused h = rw (ne_eqb number 0 h) at judged_is
+  pub judged_refused : (r : Refusal) → number_of r ≡ refusal true ordered fit → refused z (number_of r) ≡ judged z true ordered (board_with z slots n)
+  judged_refused r q = rw (refusal_not_done r) at (judged_is q)
 
-  pub judged_accepted : (x : Place) (counts : List Count) → x ≡ empty_place → (T fit → counts ≡ summary_of z (slot_at slots)) → number ≡ 0
-      → ◌≡◌ {A = Answer} (record { number = number; board = record { slots = slots; live = live; places = replicate z.places x; next = 0; summary = counts } })
-      (judged z formed ordered (board_with z slots n))
-  judged_accepted x counts hx c e =
-      rw (e, board_made z slots n live x counts l hx (c (none_against formed ordered fit (sym q ∙ e)))) (rw e at judged_is)
+  pub judged_accepted : 0 ≡ refusal true ordered fit → (b : Tables) → b ≡ start_board z → (counts : List Count) → counts ≡ summary_of z (slot_at slots)
+      → accepted (record { slots = slots; live = live; places = b.places; next = b.next; summary = counts }) ≡ judged z true ordered (board_with z slots n)
+  judged_accepted q b hb counts hc = ap accepted (board_made z slots n b live counts hb l hc) ∙ judged_is q

@@ -1,13 +1,16 @@
 -- The number of the live spaces: written and read back, both ways; each bit tells its space; and how large it can be.
 use Prim.Native.Nat.{ℕ, zero, suc, ◌+◌, ◌*◌, ◌-◌, ◌/◌, ◌%◌, ◌^◌, ◌≤◌, ◌<◌}
+use mir.Val.{bool_byte}
 use mathlib.Core.Path.{◌≡◌, refl, sym, ap, ◌∙◌}
 use mathlib.Core.Bool.{Bool, true, false, cond}
-use mathlib.Core.List.{List, [], ◌∷◌}
+use mathlib.Core.List.{List, [], ◌∷◌, ◌++◌}
 use native.Mathlib.Nat.{zero-div, div-div-eq-div-mul, mul_comm, pow-suc}
 use native.Mathlib.Omega.{arith}
 use native.Mathlib.Numerals.{add-one}
 use lib.ListN.{length, replicate, drop, get_or, set, length-set, drop_of_length-le}
 use lib.Seq.{drop-cons, ext_get_or, get_or-set_same, get_or-set_other}
+use Rattle.std.specs.Prelude.{reverse}
+use Rattle.std.proofs.lemmas.List.{reverse-append, length-reverse}
 use borrow.Author.Count.{below_more}
 use lib.Dec.{eqb}
 use borrow.Author.Tests.{eq-eqb, ne_eqb, eqb-true, eqb-false}
@@ -73,42 +76,38 @@ number_most [] = omega arith
 number_most (true ∷ rest) = omega (arith, number_most rest)
 number_most (false ∷ rest) = omega (arith, number_most rest)
 
+-- more spaces make no smaller one
+all_set_more : (n m : ℕ) → n ≤ m → all_set n ≤ all_set m
+unfolding live_number
+all_set_more zero m h = omega arith
+all_set_more (suc n) zero h = absurd (omega arith)
+all_set_more (suc n) (suc m) h = omega (arith, all_set_more n m (omega arith))
+
+sixteen : all_set 16 ≡ 65535
+unfolding live_number
+sixteen = refl
+
+-- of sixteen spaces it has five digits
+pub few_set : (n : ℕ) → n ≤ 16 → all_set n ≤ 65535
+few_set n h = omega (arith, all_set_more n 16 h, sixteen)
+
 -- ── the turns of the loops over the spaces ───────────────────────────────
--- the flags from a space on make no larger number than all of them
-drop_less : (k : ℕ) (live : List Bool) → live_number (drop k live) ≤ live_number live
+-- the next lower space's flag goes behind the number of those that a loop came by, the highest space's first
+pub number_turn : (ys : List Bool) (is : Bool) → live_number (reverse (ys ++ is ∷ [])) ≡ bool_byte is + 2 * live_number (reverse ys)
 unfolding live_number
-drop_less zero live = omega arith
-drop_less (suc k) [] = omega arith
-drop_less (suc k) (true ∷ rest) = omega (arith, drop_less k rest)
-drop_less (suc k) (false ∷ rest) = omega (arith, drop_less k rest)
+number_turn ys is = rw (reverse-append ys (is ∷ [])) (flag_first is)
+  where
+    flag_first : (b : Bool) → cond b 1 0 + 2 * live_number (reverse ys) ≡ bool_byte b + 2 * live_number (reverse ys)
+    flag_first true = refl
+    flag_first false = refl
 
--- n is the number of the flags from space k on
-pub record Numbering (live : List Bool) (n k : ℕ) : Type 0 where
-  pub within : k ≤ length live
-  pub is : n ≡ live_number (drop k live)
-
-pub number_none : (live : List Bool) (k : ℕ) → length live ≡ k → Numbering live 0 k
+pub number_room : (ys : List Bool) {spaces : ℕ} → length ys < spaces → 2 * live_number (reverse ys) + 1 ≤ all_set spaces
 unfolding live_number
-number_none live k e =
-    let h : length live ≤ k = omega arith in
-    record { within = omega arith; is = rw (drop_of_length-le live h) }
-
-module _ {live : List Bool} {n k : ℕ} (g : Numbering live n k) where
-  pub number_small : n ≤ all_set (length live)
-  number_small = omega (arith, g.is, drop_less k live, number_most live)
-
-  pub number_turn : {m : ℕ} → 0 < k → m ≡ cond (get_or live (k - 1) false) 1 0 → Numbering live (2 * n + m) (k - 1)
-  unfolding live_number
-  number_turn {m} h e =
-      let o : k - 1 < length live = omega (arith, g.within) in
-      let c : drop (k - 1) live ≡ get_or live (k - 1) false ∷ drop (suc (k - 1)) live = drop-cons live (k - 1) false o in
-      let j : suc (k - 1) ≡ k = omega arith in
-      let w : live_number (drop (k - 1) live) ≡ cond (get_or live (k - 1) false) 1 0 + 2 * live_number (drop k live) =
-      ap live_number c ∙ ap (λ (i : ℕ). cond (get_or live (k - 1) false) 1 0 + 2 * live_number (drop i live)) j in
-      record { within = omega (arith, g.within); is = omega (arith, w, e, g.is) }
-
-  pub number_end : k ≤ 0 → n ≡ live_number live
-  number_end h = let e : k ≡ 0 = omega arith in g.is ∙ ap (λ (i : ℕ). live_number (drop i live)) e
+number_room ys {spaces} h =
+    omega (arith, number_most (reverse ys), all_set_more (length (reverse ys) + 1) spaces (omega (arith, length-reverse ys)), one_more (length (reverse ys)))
+  where
+    one_more : (n : ℕ) → all_set (n + 1) ≡ 1 + 2 * all_set n
+    one_more n = rw (add-one n) refl
 
 -- the first k flags of the number n are set, and m has the others
 pub record Flagging (spaces n : ℕ) (live : List Bool) (m k : ℕ) : Type 0 where

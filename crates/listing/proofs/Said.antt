@@ -23,7 +23,9 @@ use Rattle.listing.specs.Live.{all_live}
 use Rattle.listing.specs.declared.read.Row.{Row}
 use Rattle.listing.specs.Content.{Content, row_line, row_lines, spelt, RowFits, AllFit, no_rows, one_row, Fits, Says, row_key}
 use Rattle.listing.specs.Read.{up_to, live_in, held_in, row_of, row_in, row_fits, fitting, Rest, with_row, held_last, rest_of, with_live, content_of, ended, said}
-use Rattle.listing.proofs.Live.{Numbering, number_small}
+use Rattle.std.specs.Prelude.{reverse}
+use Rattle.listing.specs.Live.{live_number}
+use Rattle.listing.proofs.Live.{number_room}
 use Rattle.listing.proofs.Cut.{unlines, whole_lines, ended_last, plain, plain_more, plain_entry, cut_first}
 
 -- sizes whose numbers have five digits at most, so that they can be read
@@ -36,9 +38,9 @@ pub record Readable (z : Sizes) : Type 0 where
   pub pages_small : z.pages ≤ most_read
   pub slots_small : slot_count z ≤ most_read
 
--- the number of live spaces, and of some of them, is read
-pub number_fits : {z : Sizes} → Readable z → {live : List Bool} {n k : ℕ} → length live ≡ z.spaces → Numbering live n k → n ≤ most_read
-number_fits small {live} e g = let m = number_small g in let m' = rw e at m in omega (arith, m', small.live_small)
+-- the number of the live spaces has room for the next space's flag while one is left
+pub number_fits : {z : Sizes} → Readable z → (ys : List Bool) → length ys < z.spaces → 2 * live_number (reverse ys) + 1 ≤ most_read
+number_fits small ys h = omega (arith, number_room ys h, small.live_small)
 
 -- ── the lines, without their newlines ────────────────────────────────────
 live_text : ℕ → List ℕ

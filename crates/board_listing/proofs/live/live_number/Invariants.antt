@@ -1,13 +1,10 @@
--- `live_number` meets its contract. The invariant: n is the number of the flags from space `left` on.
-use Rattle.entry_listing.proofs as own
-use Rattle.entry.specs.Sizes.{sizes}
-use lib.ListN.{length}
+-- `live_number` meets its contract. The invariant: n is the number of the flags so far, the highest space's first.
 use mathlib.Core.Path.{◌≡◌}
-use Rattle.listing.proofs.Live.{Numbering}
-use own.live.live_number.Given as goal
+use mathlib.Core.Bool.{Bool}
+use denote.Ref.{Bor}
+use Rattle.std.specs.Prelude.{map, reverse}
+use Rattle.listing.specs.Live.{live_number}
+use Rattle.board_listing.proofs.live.live_number.Given as goal
 
-abbrev pub invariant-loop-left : goal.invariant-loop-left
-invariant-loop-left l = Numbering l.live l.n l.left × (length l.live ≡ sizes.spaces)
-
-abbrev pub decreases-loop-left : goal.decreases-loop-left
-decreases-loop-left l = l.left
+abbrev pub invariant-loop-is : goal.invariant-loop-is
+invariant-loop-is g l = l.n ≡ live_number (reverse (map (λ (is : Bor Bool). is.now) l.yielded))

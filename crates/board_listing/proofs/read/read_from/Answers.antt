@@ -1,57 +1,76 @@
 -- `read_from` meets its contract: the goals that are left, from the invariant.
-use Rattle.entry_listing.proofs as own
-use Prim.Native.Nat.{◌≤◌}
-use mathlib.Core.Path.{ap, ◌∙◌}
+use Prim.Native.Nat.{ℕ, ◌-◌, ◌≤◌}
+use mathlib.Core.Path.{sym, ap, ◌∙◌}
 use native.Mathlib.Omega.{arith}
-use lib.ListN.{length}
+use lib.ListN.{length, take, drop}
 use Rattle.lend.specs.Tables.{Tables}
 use Rattle.text.proofs.Seeking.{line_within}
+use Rattle.listing.specs.Read.{held_in}
 use Rattle.listing.proofs.Said.{let_through, key_below}
 use Rattle.listing.proofs.Loop.{read_start, read_none, read_last, read_unheld, read_turn, read_bad}
-use Rattle.entry.specs.Sizes.{sizes}
+use Rattle.board.specs.Model.{sizes}
+use Rattle.board_listing.proofs.Examined.{lost}
+use Rattle.std.proofs.lemmas.Result.{err_from_is_err_and}
 use borrow.Author.Rules.{rules}
-use own.read.read_from.Goals as goal
+use Rattle.board_listing.proofs.read.read_from.Goals as goal
 
 pub loop-from-init : goal.loop-from-init
-loop-from-init c = read_start sizes _ _ _ _ (ap (λ (t : Tables). t.slots) c.start-board.ensures)
+loop-from-init g c = read_start _ _ _ _ _ (ap (λ (t : Tables). t.slots) c.start-slots.ensures)
 
 pub overflow_add-end : goal.overflow_add-end
-overflow_add-end c =
+overflow_add-end g c =
     let h : c.line_end-end.result ≤ length c.args.text.now = line_within _ _ _ c.line_end-end.ensures (search rules) in
     search rules
 
 pub slice_bounds-held_line-end : goal.slice_bounds-held_line-end
-slice_bounds-held_line-end c =
+slice_bounds-held_line-end g c =
     let h : c.line_end-end.result ≤ length c.args.text.now = line_within _ _ _ c.line_end-end.ensures (search rules) in
     search rules
 
-pub returns-in_default : goal.returns-in_default
-returns-in_default c =
-    c.refused.ensures
-    ∙ read_unheld c.loop-from.invariant (search rules) c.line_end-end.ensures (search rules) c.in_default.ensures
+pub returns-in_err-held : goal.returns-in_err-held
+returns-in_err-held g c =
+    let p = err_from_is_err_and c.from_residual.result c.from_residual.ensures.1 in
+    let q = lost c.held_line.result c.in_err-held.ensures.value in
+    let most = ap (λ (n : ℕ). held_in (n - g.row.PAGES) (take (c.line_end-end.result - c.loop-from.from) (drop c.loop-from.from c.args.text.now))) c.args.shape.is_model.slots_are in
+    rw (p.1, p.2, q.1) (read_unheld c.loop-from.invariant (search rules) c.line_end-end.ensures (search rules) (q.0 ∙ (c.held_line.ensures ∙ most)))
 
 pub returns-then-text-end : goal.returns-then-text-end
-returns-then-text-end c =
-    c.judged.ensures
-    ∙ read_last c.loop-from.invariant (search rules) c.line_end-end.ensures (search rules) c.in-Some.ensures
+returns-then-text-end g c =
+    let most = ap (λ (n : ℕ). held_in (n - g.row.PAGES) (take (c.line_end-end.result - c.loop-from.from) (drop c.loop-from.from c.args.text.now))) c.args.shape.is_model.slots_are in
+    c.board_with.ensures
+    ∙ read_last c.loop-from.invariant (search rules) c.line_end-end.ensures (search rules) (sym c.in_ok-held.ensures.ok_part ∙ (c.held_line.ensures ∙ most))
 
-pub returns-in_default-row_of : goal.returns-in_default-row_of
-returns-in_default-row_of c =
-    c.refused-in_default-row_of.ensures
-    ∙ read_bad c.loop-from.invariant (search rules) c.line_end-end.ensures (search rules) c.in_default-row_of.ensures
+pub returns-in_err-row : goal.returns-in_err-row
+returns-in_err-row g c =
+    let p = err_from_is_err_and c.from_residual-in_err-row.result c.from_residual-in_err-row.ensures.1 in
+    let q = lost c.row_of.result c.in_err-row.ensures.value in
+    rw (p.1, p.2, q.1) (read_bad c.loop-from.invariant (search rules) c.line_end-end.ensures (search rules) (q.0 ∙ c.row_of.ensures))
+
+pub overflow_cast-row : goal.overflow_cast-row
+overflow_cast-row g c =
+    let z = sizes g.row.SPACES g.row.PAGES g.row.PLACES in
+    let r = let_through z _ _ (sym c.in_ok-row.ensures.ok_part ∙ c.row_of.ensures) in
+    omega (arith, r.space_to, c.args.shape.is_model.few_spaces)
+
+pub overflow_cast-row-in-loop-from : goal.overflow_cast-row-in-loop-from
+overflow_cast-row-in-loop-from g c =
+    let z = sizes g.row.SPACES g.row.PAGES g.row.PLACES in
+    let r = let_through z _ _ (sym c.in_ok-row.ensures.ok_part ∙ c.row_of.ensures) in
+    omega (arith, r.page_to, c.args.shape.is_model.few_pages)
 
 pub bounds-slots-k : goal.bounds-slots-k
-bounds-slots-k c =
-    let h = key_below sizes _ (let_through sizes _ _ c.in-Some-row_of.ensures) in
-    omega (arith, h, c.page_of-k.ensures)
+bounds-slots-k g c =
+    let z = sizes g.row.SPACES g.row.PAGES g.row.PLACES in
+    let h = key_below z _ (let_through z _ _ (sym c.in_ok-row.ensures.ok_part ∙ c.row_of.ensures)) in
+    omega (arith, h, c.key-k.ensures, c.args.shape.is_model.slots_are)
 
 pub loop-from-preserved : goal.loop-from-preserved
-loop-from-preserved c =
+loop-from-preserved g c =
     read_turn c.loop-from.invariant (search rules) c.line_end-end.ensures (search rules)
-    c.in-Some-row_of.ensures
-    c.page_of-k.ensures
+    (sym c.in_ok-row.ensures.ok_part ∙ c.row_of.ensures)
+    c.key-k.ensures
     c.rises-rising.ensures
     c.slot_of.ensures
 
 pub returns : goal.returns
-returns c = c.refused-2.ensures ∙ read_none c.loop-from.invariant (search rules)
+returns g c = read_none c.loop-from.invariant (search rules)

@@ -1,7 +1,5 @@
 -- `check_one` meets its contract: the tests are those of the rules, in their order.
-use mathlib.Core.Path.{ap, ◌∙◌}
 use Rattle.std.proofs.lemmas.Result.{err_from_is_err_and}
-use Rattle.lend.specs.Refusals.{answer_of}
 use Rattle.calls.proofs.RangeChecks.{one_refused, one_passed}
 use Rattle.calls.proofs.checks.check_one.Goals as goal
 

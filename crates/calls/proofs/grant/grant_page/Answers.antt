@@ -41,7 +41,7 @@ returns-in_err-check_lines g c =
     let p = err_from_is_err_and c.from_residual-in_err-check_lines.result c.from_residual-in_err-check_lines.ensures.1 in
     rw (p.1, p.2)
     (grant_err_lines _ (few_slots c.args.b.now.shape.is_model) _ c.requires _ _ _ _ _ c.in_ok-check_named.ensures _ _ c.key-giver.ensures c.key-taker.ensures
-    _ _ _ c.only-taker_alone.ensures c.line_has-under_taker.ensures c.source_of.ensures _ c.in_err-check_lines.ensures)
+    _ _ _ c.only-taker_alone.ensures c.line_has-under_taker.ensures c.source_of-source.ensures _ c.in_err-check_lines.ensures)
 
 pub link-requires : goal.link-requires
 link-requires g c =
@@ -60,6 +60,6 @@ overflow_cast-at-2 g c =
 pub returns : goal.returns
 returns g c =
     grant_made _ (few_slots c.args.b.now.shape.is_model) _ c.requires _ _ _ _ _ c.in_ok-check_named.ensures _ _ c.key-giver.ensures c.key-taker.ensures
-    _ _ _ c.only-taker_alone.ensures c.line_has-under_taker.ensures c.source_of.ensures c.in_ok-check_lines.ensures _ _ _ _ _ _ _ _ _ _ _ _ c.link.ensures c.only-giver_alone.ensures
+    _ _ _ c.only-taker_alone.ensures c.line_has-under_taker.ensures c.source_of-source.ensures c.in_ok-check_lines.ensures _ _ _ _ _ _ _ _ _ _ _ _ c.link.ensures c.only-giver_alone.ensures
     c.line_has-under_giver.ensures c.giver_loses.ensures c.cut-given.ensures.board c.cut-given.ensures.lost c.lookup-frame.ensures.frame c.from.ensures
     c.count_lost.ensures c.rights-before.ensures c.settle.ensures.board c.settle.ensures.emptied

@@ -1,0 +1,75 @@
+// Made by tools/models.py from crates/lend_entry/src/ranges.rt: change that file.
+// unmap, flush, map and grant over ranges.
+ghost use Rattle.std.specs.Prelude.{◌≡◌, []};
+ghost use Rattle.lend.specs.Ranges.{UnmapRange, FlushRange, MapRange, GrantRange};
+ghost use Rattle.image.specs.Answered.{left, range_answer_to};
+ghost use Rattle.lend.specs.Sizes.{premium as sizes};
+
+use board::PREMIUM;
+use image_calls::ranges;
+
+#[unsafe(no_mangle)]
+pub extern "C" fn lend_premium_unmap_range(
+    image: &mut [u8],
+    space: u32,
+    base: u32,
+    size: u32,
+    rights: u32,
+    out: &mut [u32; 4],
+) -> u32
+    ensures { left result image.new [] out.new ≡ range_answer_to sizes (UnmapRange space base size rights) image.old }
+{
+    ranges::unmap_range(PREMIUM, image, space, base, size, rights, out)
+}
+
+#[unsafe(no_mangle)]
+pub extern "C" fn lend_premium_flush_range(
+    image: &mut [u8],
+    space: u32,
+    base: u32,
+    size: u32,
+    rights: u32,
+    out: &mut [u32; 4],
+) -> u32
+    ensures { left result image.new [] out.new ≡ range_answer_to sizes (FlushRange space base size rights) image.old }
+{
+    ranges::flush_range(PREMIUM, image, space, base, size, rights, out)
+}
+
+#[unsafe(no_mangle)]
+pub extern "C" fn lend_premium_map_range(
+    image: &mut [u8],
+    from: u32,
+    base: u32,
+    size: u32,
+    to: u32,
+    at_base: u32,
+    at_size: u32,
+    rights: u32,
+    out: &mut [u32; 4],
+) -> u32
+    ensures { left result image.new [] out.new ≡ range_answer_to sizes (MapRange from base size to at_base at_size rights) image.old }
+{
+    ranges::map_range(
+        PREMIUM, image, from, base, size, to, at_base, at_size, rights, out,
+    )
+}
+
+#[unsafe(no_mangle)]
+pub extern "C" fn lend_premium_grant_range(
+    image: &mut [u8],
+    from: u32,
+    base: u32,
+    size: u32,
+    to: u32,
+    at_base: u32,
+    at_size: u32,
+    rights: u32,
+    out: &mut [u32; 4],
+) -> u32
+    ensures { left result image.new [] out.new ≡ range_answer_to sizes (GrantRange from base size to at_base at_size rights) image.old }
+{
+    ranges::grant_range(
+        PREMIUM, image, from, base, size, to, at_base, at_size, rights, out,
+    )
+}
