@@ -61,3 +61,18 @@ pub(crate) fn grant_page<
     b.count_lost(usize::from(frame), given);
     Ok(settle(b, &before, to as u8, at as u8))
 }
+
+// Answers how many pages it emptied.
+pub fn grant<const SPACES: usize, const PAGES: usize, const SLOTS: usize, const PLACES: usize>(
+    b: &mut Board<SPACES, PAGES, SLOTS, PLACES>,
+    from: u32,
+    page: u32,
+    to: u32,
+    at: u32,
+    rights: u32,
+) -> Result<u32, Refusal>
+    ensures { outcome result (tables b.new) ≡ step (sizes SPACES PAGES PLACES) (alone (tables b.old)) (Grant from page to at rights) }
+{
+    b.check()?;
+    grant_page(b, from, page, to, at, rights)
+}

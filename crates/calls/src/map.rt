@@ -46,3 +46,18 @@ pub(crate) fn map_page<
     link(b, &under_taker, taker, giver, lent);
     Ok(settle(b, &before, to as u8, at as u8))
 }
+
+// Answers how many pages it emptied.
+pub fn map<const SPACES: usize, const PAGES: usize, const SLOTS: usize, const PLACES: usize>(
+    b: &mut Board<SPACES, PAGES, SLOTS, PLACES>,
+    from: u32,
+    page: u32,
+    to: u32,
+    at: u32,
+    rights: u32,
+) -> Result<u32, Refusal>
+    ensures { outcome result (tables b.new) ≡ step (sizes SPACES PAGES PLACES) (alone (tables b.old)) (Map from page to at rights) }
+{
+    b.check()?;
+    map_page(b, from, page, to, at, rights)
+}

@@ -37,3 +37,16 @@ pub(crate) fn unmap_page<
     b.count_lost(usize::from(frame), lost);
     Ok(u32::from(lost.held))
 }
+
+// Answers how many pages it emptied.
+pub fn unmap<const SPACES: usize, const PAGES: usize, const SLOTS: usize, const PLACES: usize>(
+    b: &mut Board<SPACES, PAGES, SLOTS, PLACES>,
+    space: u32,
+    page: u32,
+    rights: u32,
+) -> Result<u32, Refusal>
+    ensures { outcome result (tables b.new) ≡ step (sizes SPACES PAGES PLACES) (alone (tables b.old)) (Unmap space page rights) }
+{
+    b.check()?;
+    unmap_page(b, space, page, rights)
+}

@@ -5,5 +5,9 @@
 pub mod address;
 mod finish;
 pub mod frame;
+pub mod lending;
+pub mod listed;
+pub mod ranges;
 pub mod spaces;
 pub mod start;
+pub mod withdraw;
