@@ -51,7 +51,7 @@ pub told_on : (z : Sizes) (call : Call) (image memory : List ℕ) {b : Tables} (
 told_on z call image memory o e is f gives r m map-is number-is out-is {n} {image'} {memory'} {out'} finish-is mem-is =
     let m-is = mapped f gives r map-is in
     let finish-is' : left n image' [] out' ≡ finishing z o.state.board o.reply.number (fields_of (filled f r)).0 (fields_of (filled f r)).1 (fields_of (filled f r)).2 image =
-        rw (← number-is, ← filled_number f r, ← m-is) finish-is in
+    rw (← number-is, ← filled_number f r, ← m-is) finish-is in
     answered_on z call _ _ _ o e is _ _ _ _ _ _ _ finish-is' mem-is out-is
 
 -- one field, none, and those of translate

@@ -3,7 +3,6 @@ use mathlib.Core.Path.{refl}
 use Rattle.lend.specs.Refusals.{refusal_not_done}
 use Rattle.image.specs.Answered.{finishing}
 use Rattle.image.proofs.Answered.{finished_done}
-use Rattle.board.specs.Model.{sizes}
 use Rattle.image_calls.proofs.finish.finish.Goals as goal
 
 pub returns-in-Ok : goal.returns-in-Ok
