@@ -49,7 +49,9 @@ pub extern "C" fn lend_entry_map_range(
 ) -> u32
     ensures { left result image.new [] out.new ≡ range_answer_to sizes (MapRange from base size to at_base at_size rights) image.old }
 {
-    ranges::map_range(ENTRY, image, from, base, size, to, at_base, at_size, rights, out)
+    ranges::map_range(
+        ENTRY, image, from, base, size, to, at_base, at_size, rights, out,
+    )
 }
 
 #[unsafe(no_mangle)]
@@ -66,5 +68,7 @@ pub extern "C" fn lend_entry_grant_range(
 ) -> u32
     ensures { left result image.new [] out.new ≡ range_answer_to sizes (GrantRange from base size to at_base at_size rights) image.old }
 {
-    ranges::grant_range(ENTRY, image, from, base, size, to, at_base, at_size, rights, out)
+    ranges::grant_range(
+        ENTRY, image, from, base, size, to, at_base, at_size, rights, out,
+    )
 }
