@@ -3,11 +3,11 @@
 // is made, and the image is written where the call is done.
 #![tactic(auto)]
 
-pub mod access;
-pub mod board;
+pub mod address;
 pub mod frame;
 pub mod lending;
 pub mod listed;
 pub mod ranges;
 pub mod spaces;
+pub mod start;
 pub mod withdraw;

@@ -1,4 +1,4 @@
-// Made by tools/models.py from crates/lend_entry/src/access.rt: change that file.
+// Made by tools/models.py from crates/lend_entry/src/address.rt: change that file.
 // translate, load and store.
 ghost use Rattle.std.specs.Prelude.{◌≡◌, []};
 ghost use Rattle.lend.specs.Calls.{Translate, Load, Store};

@@ -1,4 +1,4 @@
-// Made by tools/models.py from crates/lend_entry/src/board.rt: change that file.
+// Made by tools/models.py from crates/lend_entry/src/start.rt: change that file.
 // The start board, and the test of soundness.
 ghost use Rattle.std.specs.Prelude.{◌≡◌, []};
 ghost use Rattle.image.specs.Answered.{left, start_answer, sound_number};
