@@ -3,22 +3,21 @@
 use mathlib.Core.Path.{◌≡◌, refl, sym, ap, ◌∙◌}
 use mathlib.Core.Bool.{Bool, true, false, not, cond}
 use mathlib.Core.List.{List}
-use Prim.Native.Nat.{ℕ, ◌+◌, ◌≤◌, ◌<◌}
+use Prim.Native.Nat.{ℕ, ◌≤◌, ◌<◌}
 use native.Mathlib.Decide.{dec_lt}
 use native.Mathlib.Numerals.{add-one}
 use native.Mathlib.Omega.{arith}
 use lib.Dec.{eqb, ltb, nleb→lt}
 use lib.ListN.{length, get_or, set}
 use borrow.Author.Tests.{lt-ltb, le-ltb}
-use Rattle.lend.specs.declared.Link.{Link}
-use Rattle.lend.specs.declared.Link.TheVariants.{Nothing, Frame, Page}
+use Rattle.lend.specs.declared.Link.TheVariants.{Frame}
 use Rattle.lend.specs.declared.Slot.{Slot}
 use Rattle.lend.specs.declared.Place.{Place}
-use Rattle.lend.specs.Sizes.{Sizes, memory_bytes, slot_count, key}
+use Rattle.lend.specs.Sizes.{Sizes, memory_bytes, key}
 use Rattle.lend.specs.Rights.{read_right, write_right, within}
 use Rattle.lend.specs.Slots.{slot_at, held}
 use Rattle.lend.specs.Tables.{Tables, State, alone, table_of}
-use Rattle.lend.specs.Line.{frame, frame_of, links, links_of}
+use Rattle.lend.specs.Line.{frame_of, links_of}
 use Rattle.lend.specs.Cache.{place_at, place_for, cached, empty_in, goes_to, next_after, inserted}
 use Rattle.lend.specs.Sound.{Sound}
 use Rattle.lend.specs.SoundTest.{sound_test}
@@ -30,34 +29,14 @@ use Rattle.lend_sound.proofs.SoundTest.{test_sound}
 use Rattle.lend_laws.proofs.Accepted.{accepted, refused, tested}
 use Rattle.lend_lending.proofs.Frames.{frame_held}
 use Rattle.lend_lending.proofs.Insert.{hit_place, page_in, ReadFine, translate_fine, load_fine, store_fine}
-use Rattle.lend_code.specs.Inner.{inside_of, link_in}
+use Rattle.lend_code.specs.Inner.{inside_of}
 use Rattle.lend_code.specs.Access.{place_after, access_number, Look, look_if, look_at, counted_of, byte_at}
 use Rattle.lend_code.proofs.Fits.{inside_key}
 
--- ── the walk to a frame ──────────────────────────────────────────────────
--- a page has one link at most
-one_link : {n : ℕ} (l : Link) → n ≡ link_in l → n ≤ 1
-one_link Nothing e = omega arith
-one_link (Frame i) e = omega arith
-one_link (Page s p) e = omega arith
-
 module _ (z : Sizes) (b : List Slot) (k : ℕ) where
-  -- the walk along the line of k has come over so many links to the page at, with so many pages left to visit: what is left has the
-  -- frame of k, and the links that k has more
-  pub record Climbing (at over left : ℕ) : Type 0 where
-    pub slots_long : length b ≡ slot_count z
-    pub some_left : 1 ≤ left
-    pub visited : over + left ≡ z.spaces
-    pub same : frame z (slot_at b) left at ≡ frame_of z (slot_at b) k
-    pub more : over + links z (slot_at b) left at ≡ links_of z (slot_at b) k
-
   -- what the walk comes to: the frame of k and its links
   abbrev pub Reached : ℕ → ℕ → Type 0
   Reached fr over = (fr ≡ frame_of z (slot_at b) k) × (over ≡ links_of z (slot_at b) k)
-
-  -- the links gone over, and the one that the page at has, are at most as many as there are spaces
-  pub climbing_room : (at over left n : ℕ) → Climbing at over left → n ≡ link_in (slot_at b at).link → over + n ≤ z.spaces
-  climbing_room at over left n w e = omega (arith, one_link (slot_at b at).link e, w.visited, w.some_left)
 
 -- ── the cache's insertion ────────────────────────────────────────────────
 module _ (z : Sizes) (c : List Place) (next : ℕ) (q : Place) (long : length c ≡ z.places) (at : ℕ) (is : at ≡ empty_in c) where

@@ -5,7 +5,7 @@ use mathlib.Core.List.{List}
 use Prim.Native.Nat.{ℕ, ◌≤◌, ◌<◌}
 use native.Mathlib.Omega.{arith}
 use lib.Dec.{T, eqb, ltb, leb, eqb→eq, ltb→lt, leb→le}
-use lib.ListN.{length, get_or, replicate, get_or-eq_default}
+use lib.ListN.{length, get_or, get_or-eq_default}
 use native.Mathlib.Decide.{dec_lt}
 use borrow.Author.Tests.{eq-eqb}
 use Rattle.lend.specs.declared.Link.{Link}
@@ -20,11 +20,11 @@ use Rattle.lend.specs.Tables.{Tables, Shaped, table_of, alive}
 use Rattle.lend.specs.Line.{frame_of}
 use Rattle.lend.specs.Cache.{filled, page_named, place_at, place_for}
 use Rattle.lend.specs.SoundTest.{slot_test, line_test, pages_test, names_test, place_test, is_empty_place, cache_test, shape_test, same_counts, summary_test, sound_test}
-use Rattle.lend.specs.Summary.{no_count, summary_of}
+use Rattle.lend.specs.Summary.{summary_of}
 use Rattle.lend_basics.proofs.Bools.{and_l, and_r, and_i, is_true, is_false, true_is, same_test, differ, positive}
 use Rattle.lend_basics.proofs.Lists.{each, every_of, tabulate_at}
 use Rattle.lend_basics.proofs.Loops.{Tested, tested_not, tested_all}
-use Rattle.lend_code.specs.Inner.{inside_of, Fitting, quick_line, rights_of, Framed, summary_with, place_fits, place_ok, places_fit, rights_found, frames_found, counts_found}
+use Rattle.lend_code.specs.Inner.{inside_of, Fitting, quick_line, rights_of, Framed, summary_with, place_fits, place_ok, places_fit}
 use Rattle.lend_code.proofs.Fits.{key_in, inside_key}
 use Rattle.lend_code.proofs.QuickLines.{quick_lines}
 use Rattle.lend_code.proofs.Columns.{rights_at}
@@ -145,19 +145,6 @@ module _ (z : Sizes) (b : List Slot) (live : List Bool) (long : length b ≡ slo
 all_fits : (z : Sizes) (b : List Slot) (live : List Bool) → pages_test z live (slot_at b) ≡ true → every (slot_count z) (slot_test z live (slot_at b)) ≡ true
 unfolding pages_test
 all_fits z b live fit = let t : T (pages_test z live (slot_at b)) = true_is _ fit in is_true _ (search (and_l, and_r) depth 12)
-
--- ── what is found of the pages ───────────────────────────────────────────
--- in the order in which `examine` gives it
-abbrev pub Found : Sizes → List Slot → List Bool → Bool → List ℕ → List ℕ → List Count → Type 0
-Found z b live fit rights frames counts =
-    (fit ≡ pages_test z live (slot_at b)) × ((rights ≡ rights_found z b live) × ((frames ≡ frames_found z b live) × (counts ≡ counts_found z b live)))
-
-module _ (z : Sizes) (b : List Slot) (live : List Bool) (fit : Bool) (rights frames : List ℕ) (counts : List Count) where
-  -- of pages that are not sound, zeros
-  pub none_found : false ≡ pages_test z live (slot_at b) → fit ≡ false → rights ≡ replicate (slot_count z) 0 → frames ≡ replicate (slot_count z) 0
-      → counts ≡ replicate z.pages no_count → Found z b live fit rights frames counts
-  unfolding rights_found frames_found counts_found
-  none_found e f r s c = (f ∙ e, (r ∙ rw (← e), (s ∙ rw (← e), c ∙ rw (← e))))
 
 -- ── the board ────────────────────────────────────────────────────────────
 module _ (z : Sizes) (b : Tables) (shape : Shaped z b) where

@@ -11,9 +11,9 @@ use Rattle.lend.specs.Lists.{any, every, count, tabulate}
 use Rattle.lend.specs.Slots.{Table, slot_at, held, with_rights}
 use Rattle.lend.specs.Tables.{Tables, alone, alive}
 use Rattle.lend.specs.Line.{line, line_of, frame_of}
-use Rattle.lend.specs.Summary.{no_count, count_at, summary_of}
+use Rattle.lend.specs.Summary.{no_count, count_at}
 use Rattle.lend.specs.Cache.{filled, page_named, place_at, place_for, dropped_where}
-use Rattle.lend.specs.SoundTest.{slot_test, pages_test, is_empty_place, sound_test}
+use Rattle.lend.specs.SoundTest.{slot_test, is_empty_place, sound_test}
 use Rattle.lend.specs.Start.{start_board}
 use Rattle.lend.specs.Numbers.{no_space, no_page, bad_rights}
 use Rattle.lend.specs.Calls.{Outcome, plain_reply}
@@ -108,12 +108,6 @@ pub record Fitting (z : Sizes) (b : List Slot) : Type 0 where
   pub live : List Bool
   pub fits : (k : ℕ) → k < slot_count z → T (slot_test z live (slot_at b) k)
 
--- how many links a page has that keeps this one: one, or none where it is empty
-abbrev pub link_in : Link → ℕ
-link_in Nothing = 0
-link_in (Frame i) = 1
-link_in (Page s p) = 1
-
 -- the line above page k, with n pages left to visit from k on, comes to space 0 and has no page in the space of k
 abbrev pub rest_ok : Sizes → Table → ℕ → ℕ → Link → Bool
 rest_ok z f k n Nothing = true
@@ -136,16 +130,6 @@ place_ok z rights frames c i q =
 
 unfoldable pub places_fit : Sizes → List ℕ → List ℕ → List Place → Bool
 places_fit z rights frames c = every z.places (λ i. place_ok z rights frames c i (place_at c i))
-
--- what is found of the pages, where they are sound: the rights and frames of all, and the counts of all frames; where they are not, zeros
-unfoldable pub rights_found : Sizes → List Slot → List Bool → List ℕ
-rights_found z b live = cond (pages_test z live (slot_at b)) (rights_of z b) (replicate (slot_count z) 0)
-
-unfoldable pub frames_found : Sizes → List Slot → List Bool → List ℕ
-frames_found z b live = cond (pages_test z live (slot_at b)) (tabulate (slot_count z) (λ k. frame_of z (slot_at b) k)) (replicate (slot_count z) 0)
-
-unfoldable pub counts_found : Sizes → List Slot → List Bool → List Count
-counts_found z b live = cond (pages_test z live (slot_at b)) (summary_of z (slot_at b)) (replicate z.pages no_count)
 
 -- ── the calls ────────────────────────────────────────────────────────────
 -- the numbers of a call that names a page and rights, with the rest of them; first on a board that is known to be sound
