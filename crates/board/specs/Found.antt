@@ -17,10 +17,6 @@ use Rattle.board.specs.declared.sound.Pages.{Pages}
 abbrev pub if_below : ℕ → ℕ → Option ℕ
 if_below end k = cond (ltb k end) (Some k) None
 
-abbrev pub is_found : {A : Type 0} → Option A → Bool
-is_found None = false
-is_found (Some x) = true
-
 -- the place of the cache that names the page, where one does
 abbrev pub place_found : List Place → ℕ → ℕ → Option Place
 place_found c space page = cond (cached space page c) (Some (place_at c (place_for space page c))) None
