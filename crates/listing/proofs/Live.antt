@@ -7,7 +7,7 @@ use mathlib.Core.List.{List, [], ◌∷◌, ◌++◌}
 use native.Mathlib.Nat.{zero-div, div-div-eq-div-mul, mul_comm, pow-suc}
 use native.Mathlib.Omega.{arith}
 use native.Mathlib.Numerals.{add-one}
-use lib.ListN.{length, replicate, drop, get_or, set, length-set, drop_of_length-le}
+use lib.ListN.{length, replicate, drop, get_or, set, length-set}
 use lib.Seq.{drop-cons, ext_get_or, get_or-set_same, get_or-set_other}
 use Rattle.std.specs.Prelude.{reverse}
 use Rattle.std.proofs.lemmas.List.{reverse-append, length-reverse}

@@ -1,6 +1,5 @@
 -- `judge` meets its contract, by what the request is: the call that it is was made by the rules.
 use mathlib.Core.Path.{ap, ◌∙◌}
-use Rattle.lend.specs.Tables.{alone}
 use Rattle.script.specs.declared.Said.{Said}
 use Rattle.script.proofs.Turns.{called}
 use Rattle.board.specs.Model.{sizes}

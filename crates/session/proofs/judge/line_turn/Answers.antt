@@ -1,5 +1,4 @@
 -- `line_turn` meets its contract: a comment, and any other line, which asks for something or for nothing.
-use mathlib.Core.Path.{ap, ◌∙◌}
 use Rattle.script.proofs.Turns.{turn_comment, turn_request, turn_garbled}
 use Rattle.board.specs.Model.{sizes}
 use Rattle.session.proofs.judge.line_turn.Goals as goal
