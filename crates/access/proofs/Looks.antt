@@ -13,14 +13,17 @@ use Rattle.access.specs.Answers.{was_hit, links_followed, seen}
 pub seen_back : Look → Seen
 seen_back l = record { frame = l.frame; followed = cond l.hit None (Some l.links) }
 
-pub seen_of_seen : (s : Seen) (t : Tables) → seen_back (seen s t) ≡ s
+seen_backs : (s : Seen) (t : Tables) → seen_back (seen s t) ≡ s
 unfolding seen_back
-seen_of_seen s t = ap (λ (x : Option ℕ). record { frame = s.frame; followed = x }) (at s.followed)
+seen_backs s t = ap (λ (x : Option ℕ). record { frame = s.frame; followed = x }) (at s.followed)
   where
     at : (x : Option ℕ) → cond (was_hit x) None (Some (links_followed x)) ≡ x
     at None = refl
     at (Some n) = refl
 
+pub seen_of_seen : (s : Seen) (t : Tables) → (seen_back (seen s t) ≡ s) × ((seen s t).board ≡ t)
+seen_of_seen s t = (seen_backs s t, refl)
+
 pub one_look : {meaning : Look} {r s : Seen} {t u : Tables} → seen r t ≡ meaning → seen s u ≡ meaning → (r ≡ s) × (t ≡ u)
 one_look {r = r} {s = s} {t = t} {u = u} v w =
-    let e = v ∙ sym w in (sym (seen_of_seen r t) ∙ (ap seen_back e ∙ seen_of_seen s u), ap (λ (l : Look). l.board) e)
+    let e = v ∙ sym w in (sym (seen_backs r t) ∙ (ap seen_back e ∙ seen_backs s u), ap (λ (l : Look). l.board) e)

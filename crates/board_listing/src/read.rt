@@ -93,7 +93,7 @@ fn read_from<const SPACES: usize, const PAGES: usize, const SLOTS: usize, const 
     let mut last: usize = 0;
     let mut count: usize = 0;
     let mut from = at;
-    // No `split` at newlines: it does not tell whether the last line ends with one.
+    // By position: `split_inclusive` would hand out each line with the newline that `line_end` leaves out; it is no plainer.
     while from < text.len() {
         let end = line_end(text, from);
         if text.len() <= end + 1 {

@@ -28,7 +28,7 @@ use Rattle.calls.specs.declared.progress.Progress.{Progress}
 use Rattle.calls.specs.Answer.{outcome, emptied_of}
 use Rattle.calls.specs.Progress.{refused_number, refused_offset, range_outcome, range_state}
 use Rattle.access.specs.declared.translate.Translation.{Translation}
-use Rattle.access.specs.Answers.{translated, byte_of, loaded, stored}
+use Rattle.access.specs.Answers.{beside, translated, byte_of, loaded, stored}
 
 module _ {spaces pages slots places : ℕ} where
   -- a function whose contract is `tables r ≡ ..`
@@ -56,35 +56,44 @@ refused_answer : {A : Type 0} (r : Refusal) (x : A) → answer (number_of r) x �
 unfolding answer
 refused_answer r x = rw (refusal_not_done r) (ap Err (refusal_of_number r))
 
-pub answer_of_outcome : (r : Result ℕ Refusal) → answer (answer_of r) (emptied_of r) ≡ r
+emptied_back : (r : Result ℕ Refusal) → answer (answer_of r) (emptied_of r) ≡ r
 unfolding answer
-answer_of_outcome (Ok n) = refl
-answer_of_outcome (Err r) = refused_answer r 0
+emptied_back (Ok n) = refl
+emptied_back (Err r) = refused_answer r 0
+
+-- `outcome` loses nothing: the answer is in the reply, and the board is the state's
+pub answer_of_outcome : (r : Result ℕ Refusal) (t : Tables)
+    → (answer (outcome r t).reply.number (outcome r t).reply.emptied ≡ r) × ((outcome r t).state.board ≡ t)
+answer_of_outcome r t = (emptied_back r, refl)
 
 -- a call whose contract is `outcome r (tables b) ≡ ..`: the answer, and all of the board after it
 pub one_answer : {meaning : Outcome} {r s : Result ℕ Refusal} {t u : Tables} → outcome r t ≡ meaning → outcome s u ≡ meaning → (r ≡ s) × (t ≡ u)
 one_answer {r = r} {s = s} v w =
     let e = v ∙ sym w in
-    (sym (answer_of_outcome r) ∙ (ap (λ (o : Outcome). answer o.reply.number o.reply.emptied) e ∙ answer_of_outcome s), ap (λ (o : Outcome). o.state.board) e)
+    (sym (emptied_back r) ∙ (ap (λ (o : Outcome). answer o.reply.number o.reply.emptied) e ∙ emptied_back s), ap (λ (o : Outcome). o.state.board) e)
 
 -- a call over a range, whose contract gives what the first checks say and `range_outcome z r (tables b) ≡ ..`
 pub range_back_of : ℕ → RangeOutcome → Result Progress Refusal
 range_back_of first o = answer first (record { done = o.done; refused = cond (eqb o.number 0) None (Some (o.offset, refusal_of o.number)); emptied = o.emptied })
 
-pub range_answer_of_range_outcome : (z : Sizes) (r : Result Progress Refusal) (t : Tables) → range_back_of (answer_of r) (range_outcome z r t) ≡ r
+range_backs : (z : Sizes) (r : Result Progress Refusal) (t : Tables) → range_back_of (answer_of r) (range_outcome z r t) ≡ r
 unfolding range_back_of answer
-range_answer_of_range_outcome z (Ok p) t = ap (λ (x : Option (ℕ × Refusal)). Ok (record { done = p.done; refused = x; emptied = p.emptied })) (at p.refused)
+range_backs z (Ok p) t = ap (λ (x : Option (ℕ × Refusal)). Ok (record { done = p.done; refused = x; emptied = p.emptied })) (at p.refused)
   where
     at : (x : Option (ℕ × Refusal)) → cond (eqb (refused_number x) 0) None (Some (refused_offset z.pages x, refusal_of (refused_number x))) ≡ x
     at None = refl
     at (Some y) = rw (refusal_not_done y.1) (ap (λ (r : Refusal). Some (y.0, r)) (refusal_of_number y.1))
-range_answer_of_range_outcome z (Err r) t = refused_answer r _
+range_backs z (Err r) t = refused_answer r _
+
+pub range_answer_of_range_outcome : (z : Sizes) (r : Result Progress Refusal) (t : Tables)
+    → (range_back_of (answer_of r) (range_outcome z r t) ≡ r) × ((range_outcome z r t).state.board ≡ t)
+range_answer_of_range_outcome z r t = (range_backs z r t, ap (λ (x : State). x.board) (sym (range_state z r t)))
 
 pub one_range_answer : (z : Sizes) {first : ℕ} {meaning : RangeOutcome} {r s : Result Progress Refusal} {t u : Tables}
     → answer_of r ≡ first → range_outcome z r t ≡ meaning → answer_of s ≡ first → range_outcome z s u ≡ meaning → (r ≡ s) × (t ≡ u)
 one_range_answer z {r = r} {s = s} {t = t} {u = u} f v g w =
     let e = v ∙ sym w in (
-      sym (range_answer_of_range_outcome z r t) ∙ ((λ i. range_back_of ((f ∙ sym g) i) (e i)) ∙ range_answer_of_range_outcome z s u),
+      sym (range_backs z r t) ∙ ((λ i. range_back_of ((f ∙ sym g) i) (e i)) ∙ range_backs z s u),
       ap (λ (x : State). x.board) (range_state z r t ∙ (ap (λ (o : RangeOutcome). o.state) e ∙ sym (range_state z s u))),
     )
 
@@ -96,42 +105,53 @@ one_range = one_result range_meant range_back range_back_meant
 pub translation_back : Outcome → Result Translation Refusal
 translation_back o = answer o.reply.number (record { address = o.reply.address; hit = o.reply.hit; links = o.reply.links })
 
-pub translated_of_translated : (r : Result Translation Refusal) (t : Tables) → translation_back (translated r t) ≡ r
+translation_backs : (r : Result Translation Refusal) (t : Tables) → translation_back (translated r t) ≡ r
 unfolding translation_back answer
-translated_of_translated (Ok x) t = refl
-translated_of_translated (Err r) t = refused_answer r _
+translation_backs (Ok x) t = refl
+translation_backs (Err r) t = refused_answer r _
+
+pub translated_of_translated : (r : Result Translation Refusal) (t : Tables) → (translation_back (translated r t) ≡ r) × ((translated r t).state.board ≡ t)
+translated_of_translated r t = (translation_backs r t, refl)
 
 pub one_translation : {meaning : Outcome} {r s : Result Translation Refusal} {t u : Tables} → translated r t ≡ meaning → translated s u ≡ meaning → (r ≡ s) × (t ≡ u)
 one_translation {r = r} {s = s} {t = t} {u = u} v w =
     let e = v ∙ sym w in
-    (sym (translated_of_translated r t) ∙ (ap translation_back e ∙ translated_of_translated s u), ap (λ (o : Outcome). o.state.board) e)
+    (sym (translation_backs r t) ∙ (ap translation_back e ∙ translation_backs s u), ap (λ (o : Outcome). o.state.board) e)
 
 -- load: the memory is lent for reading and is the same
-pub loaded_of_loaded : (r : Result ℕ Refusal) → answer (answer_of r) (byte_of r) ≡ r
+byte_back : (r : Result ℕ Refusal) → answer (answer_of r) (byte_of r) ≡ r
 unfolding answer
-loaded_of_loaded (Ok n) = refl
-loaded_of_loaded (Err r) = refused_answer r 0
+byte_back (Ok n) = refl
+byte_back (Err r) = refused_answer r 0
+
+pub loaded_of_loaded : (r : Result ℕ Refusal) (t : Tables) (m : List ℕ)
+    → (answer (loaded r t m).reply.number (loaded r t m).reply.byte ≡ r) × ((loaded r t m).state ≡ beside t m)
+loaded_of_loaded r t m = (byte_back r, refl)
 
 pub one_load : {meaning : Outcome} {r s : Result ℕ Refusal} {t u : Tables} {m : List ℕ} → loaded r t m ≡ meaning → loaded s u m ≡ meaning → (r ≡ s) × (t ≡ u)
 one_load {r = r} {s = s} v w =
     let e = v ∙ sym w in
-    (sym (loaded_of_loaded r) ∙ (ap (λ (o : Outcome). answer o.reply.number o.reply.byte) e ∙ loaded_of_loaded s), ap (λ (o : Outcome). o.state.board) e)
+    (sym (byte_back r) ∙ (ap (λ (o : Outcome). answer o.reply.number o.reply.byte) e ∙ byte_back s), ap (λ (o : Outcome). o.state.board) e)
 
 -- store: the answer, the board, and every byte of memory as the call leaves it
-pub stored_of_stored : (r : Result (Unit {0}) Refusal) → answer (answer_of r) tt ≡ r
+unit_back : (r : Result (Unit {0}) Refusal) → answer (answer_of r) tt ≡ r
 unfolding answer
-stored_of_stored (Ok x) = refl
-stored_of_stored (Err r) = refused_answer r tt
+unit_back (Ok x) = refl
+unit_back (Err r) = refused_answer r tt
 
 -- the row of checks, which hands back no value
 pub one_check : {meaning : ℕ} {r s : Result (Unit {0}) Refusal} → answer_of r ≡ meaning → answer_of s ≡ meaning → r ≡ s
-one_check {r = r} {s = s} v w = sym (stored_of_stored r) ∙ (ap (λ (n : ℕ). answer n (tt {0})) (v ∙ sym w) ∙ stored_of_stored s)
+one_check {r = r} {s = s} v w = sym (unit_back r) ∙ (ap (λ (n : ℕ). answer n (tt {0})) (v ∙ sym w) ∙ unit_back s)
+
+pub stored_of_stored : (r : Result (Unit {0}) Refusal) (t : Tables) (m : List ℕ)
+    → (answer (stored r t m).reply.number (tt {0}) ≡ r) × ((stored r t m).state ≡ beside t m)
+stored_of_stored r t m = (unit_back r, refl)
 
 pub one_store : {meaning : Outcome} {r s : Result (Unit {0}) Refusal} {t u : Tables} {m n : List ℕ} → stored r t m ≡ meaning → stored s u n ≡ meaning
     → (r ≡ s) × (t ≡ u) × (m ≡ n)
 one_store {r = r} {s = s} v w =
     let e = v ∙ sym w in (
-      sym (stored_of_stored r) ∙ (ap (λ (o : Outcome). answer o.reply.number (tt {0})) e ∙ stored_of_stored s),
+      sym (unit_back r) ∙ (ap (λ (o : Outcome). answer o.reply.number (tt {0})) e ∙ unit_back s),
       ap (λ (o : Outcome). o.state.board) e,
       ap (λ (o : Outcome). o.state.memory) e,
     )

@@ -24,6 +24,7 @@ pub(crate) fn run_lines<
 {
     let mut line: u32 = 1;
     let mut from = 0;
+    // By position: `split_inclusive` would hand out each line with the newline that `line_end` leaves out; it is no plainer.
     while from < input.len() {
         let end = line_end(input, from);
         let said = line_turn(b, &input[from..end]);

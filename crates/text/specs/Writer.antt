@@ -4,9 +4,13 @@ use Rattle.std.specs.Borrow.{MutBor}
 use Rattle.text.specs.declared.write.Writer.{Writer}
 use Rattle.text.specs.Write.{Page, page, puts}
 
--- a writer of this buffer, with nothing written yet
+-- a writer of this buffer from a position on
+abbrev pub starting_at : MutBor (List ℕ) → ℕ → Writer
+starting_at b at = record { bytes = b; at = at }
+
+-- with nothing written yet
 abbrev pub starting : MutBor (List ℕ) → Writer
-starting b = record { bytes = b; at = 0 }
+starting b = starting_at b 0
 
 -- the buffer as it is, and the position
 abbrev pub page_of : Writer → Page
