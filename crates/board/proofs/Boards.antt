@@ -1,9 +1,8 @@
 -- A board is its tables: that its sizes are a model's is a fact, and says nothing more of it.
 use Prim.Native.Nat.{ℕ}
-use mathlib.Core.Path.{◌≡◌, refl, sym, ap, ◌∙◌}
+use mathlib.Core.Path.{◌≡◌}
 use Rattle.std.proofs.Math.Nat.{ℕ_set}
 use Rattle.std.proofs.Math.Bridge.{le_prop}
-use Rattle.lend.specs.Tables.{Tables}
 use Rattle.board.specs.declared.Board.{Board}
 use Rattle.board.specs.declared.shape.Shape.{Shape}
 use Rattle.board.specs.Model.{IsModel}

@@ -1,5 +1,5 @@
 -- What the searches of a board find.
-use Rattle.std.specs.Prelude.{ℕ, Bool, false, true, cond, List, ltb}
+use Rattle.std.specs.Prelude.{ℕ, cond, List, ltb}
 use Rattle.std.specs.declared.option.Option.{Option}
 use Rattle.std.specs.declared.option.Option.TheVariants.{Some, None}
 use Rattle.lend.specs.declared.Slot.{Slot}

@@ -11,7 +11,7 @@ use Rattle.lend.specs.declared.Slot.{Slot}
 use Rattle.lend.specs.declared.Count.{Count}
 use Rattle.lend.specs.declared.refusal.Refusal.{Refusal}
 use Rattle.lend.specs.Sizes.{Sizes, slot_count, key}
-use Rattle.lend.specs.Slots.{slot_at, lent_slot}
+use Rattle.lend.specs.Slots.{lent_slot}
 use Rattle.lend.specs.Tables.{Tables, alone, table_of}
 use Rattle.lend.specs.Line.{frame_of}
 use Rattle.lend.specs.Cache.{place_for, dropped, dropped_where}

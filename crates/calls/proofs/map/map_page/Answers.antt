@@ -1,5 +1,4 @@
 -- `map_page` meets its contract: refused by the first checks or the second, or else what both have shown makes it the map of the rules.
-use mathlib.Core.Path.{◌∙◌}
 use native.Mathlib.Omega.{arith}
 use Prim.Native.Nat.{◌<◌}
 use borrow.Author.Rules.{rules}

@@ -1,7 +1,6 @@
 -- `malformed` meets its contract: its writes in a row; the number of a malformed line is 16.
-use mathlib.Core.Path.{◌≡◌, refl, sym, ap, ◌∙◌}
-use mathlib.Core.List.{List, [], ◌∷◌, ◌++◌}
-use Prim.Native.Nat.{ℕ}
+use mathlib.Core.Path.{◌≡◌, refl, ◌∙◌}
+use mathlib.Core.List.{[], ◌∷◌, ◌++◌}
 use Rattle.text.proofs as own
 use Rattle.text.specs.Ascii.{bytes, newline}
 use Rattle.text.specs.Decimal.{decimal, decimal_in}
