@@ -55,7 +55,7 @@ F
 refused rules.py "number.rt:2: a public function with a requires"
 refused contracts.py "text::number::hollow has a contract of a form that is not known"
 
-with lend_entry/src/board.rt <<'F'
+with lend_entry/src/start.rt <<'F'
 #[unsafe(no_mangle)] pub extern "C" fn hollow(x: u8) -> u8
     ensures { result ≡ less_of x x }
     requires small { x < 3 }
@@ -63,7 +63,7 @@ with lend_entry/src/board.rt <<'F'
     x
 }
 F
-refused rules.py "board.rt:2: a public function with a requires"
+refused rules.py "start.rt:2: a public function with a requires"
 
 with board/src/shape.rt <<'F'
 impl<const PAGES: usize> Row<PAGES> {
@@ -256,13 +256,6 @@ pub fn hollow<'a>(buffer: &'a mut [u8], other: &mut [u8]) -> Writer<'a>
 }
 F
 refused contracts.py "text::write::hollow does not determine what it leaves in other"
-
-with text/src/write.rt <<'F'
-pub struct Other<'a> {
-    bytes: &'a mut [u8],
-}
-F
-refused contracts.py "write.rt: a struct that may hold a reference, for which no view is known"
 
 # ---- contracts.py: the theorem of a view
 copy

@@ -24,6 +24,7 @@ NO_SIZES = [
     ('crates/board/specs/Model.antt', r'≤ (16|255|256|8192)$', 'what the types of the code can count'),
     ('crates/code_demands/proofs/Models.antt', rf'(Shape|IsModel) ({MODELS})', 'and where they are shown to be the rules\' sizes'),
     ('crates/listing/proofs/Live.antt', r'all_set 16|n 16 h', 'the most spaces of a model'),
+    ('crates/text/proofs/write/Writer/malformed/Answers.antt', r'\) 16 \+\+', 'a number of the document\'s table'),
     ('crates/calls/proofs/RangeRuns.antt', r'≤ 256 →', 'the most pages'),
     ('*', r'"[^"]*"', 'what a text says is no number'),
     ('crates/lend/specs/Ranges.antt', r'\(8 when', 'a number of the document\'s table'),
