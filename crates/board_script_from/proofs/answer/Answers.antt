@@ -2,7 +2,7 @@
 use Rattle.io.proofs.Counting.{prefix_len_of_le}
 use Rattle.script.proofs.Bound.{from_length, long_enough}
 use Rattle.script.proofs.Runs.{told_fits, told_output}
-use Rattle.entry.specs.Sizes.{sizes}
+use Rattle.lend.specs.Sizes.{entry as sizes}
 use Rattle.board_script_from.proofs.answer.Goals as goal
 
 pub returns-clause-prefix_len : goal.returns-clause-prefix_len
