@@ -43,9 +43,6 @@ NO_SIZES = [
     ('crates/examples_on_k/specs/*', r'\b\d+\b', 'the examples of 01, with the numbers that stand there'),
 ]
 
-# a function of one line too many, and why it is one
-LONG = {('crates/session/src/judge.rt', 'fn judge<'): 'one arm for each of the seven calls, as rt fmt lays them out'}
-
 breaches = []
 
 
@@ -85,7 +82,7 @@ for path in sorted(glob.glob('crates/*/src/**/*.rt', recursive=True)):
         breach(path, 1, 'no comment at the top')
     public_requires(path, text)
     for at, first, whole in functions(text):
-        if whole.count('\n') + 1 >= 40 + any(path == file and first.startswith(head) for file, head in LONG):
+        if whole.count('\n') + 1 >= 40:
             breach(path, at, f'a function of {whole.count(chr(10)) + 1} lines')
 
 for path in sorted(glob.glob('crates/*/specs/*.antt') + glob.glob('crates/*/proofs/**/*.antt', recursive=True)):

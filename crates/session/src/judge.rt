@@ -95,11 +95,7 @@ fn judge<const SPACES: usize, const PAGES: usize, const SLOTS: usize, const PLAC
             at,
             rights,
         } => answered(grant(b, from, page, to, at, rights)),
-        Request::Translate {
-            space,
-            address,
-            rights,
-        } => looked(translate(b, space, address, rights)),
+        Request::Translate { space, at, rights } => looked(translate(b, space, at, rights)),
     }
 }
 
