@@ -21,3 +21,5 @@ pub mod LineWalks
 pub mod LineFrames
 pub mod AddedTests
 pub mod Cuts
+pub mod Earlier
+pub mod EarlierWalks

@@ -2,3 +2,4 @@ pub mod Inner
 pub mod Lending
 pub mod Access
 pub mod Ranges
+pub mod Earlier
