@@ -7,7 +7,7 @@ use mathlib.Core.List.{List, [], ◌∷◌, ◌++◌}
 use native.Mathlib.Nat.{zero-div, div-div-eq-div-mul, mul_comm, pow-suc}
 use native.Mathlib.Omega.{arith}
 use native.Mathlib.Numerals.{add-one}
-use lib.ListN.{length, replicate, drop, get_or, set, length-set}
+use lib.ListN.{length, replicate, drop, get_or, set, length-set, drop_of_length-le}
 use lib.Seq.{drop-cons, ext_get_or, get_or-set_same, get_or-set_other}
 use Rattle.std.specs.Prelude.{reverse}
 use Rattle.std.proofs.lemmas.List.{reverse-append, length-reverse}
@@ -92,6 +92,13 @@ pub few_set : (n : ℕ) → n ≤ 16 → all_set n ≤ 65535
 few_set n h = omega (arith, all_set_more n 16 h, sixteen)
 
 -- ── the turns of the loops over the spaces ───────────────────────────────
+-- behind the highest space stand no flags, and their number is 0
+pub number_none : (live : List Bool) (k : ℕ) → length live ≡ k → (k ≤ length live) × (0 ≡ live_number (drop k live))
+unfolding live_number
+number_none live k e =
+    let h : length live ≤ k = omega arith in
+    (omega arith, rw (drop_of_length-le live h))
+
 -- the next lower space's flag goes behind the number of those that a loop came by, the highest space's first
 pub number_turn : (ys : List Bool) (is : Bool) → live_number (reverse (ys ++ is ∷ [])) ≡ bool_byte is + 2 * live_number (reverse ys)
 unfolding live_number

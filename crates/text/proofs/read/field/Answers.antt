@@ -1,13 +1,14 @@
 -- `field` meets its contract.
 use Rattle.text.proofs as own
-use Rattle.text.specs as spec
-use spec.Fields.{read_off}
-use own.Reading.{field_none, field_some}
-use mathlib.Core.Path.{ap, ◌∙◌}
+use own.Reading.{handed_none, handed_field}
+use mathlib.Core.Path.{sym, ◌∙◌}
+use borrow.Author.Rules.{rules}
 use own.read.field.Goals as goal
 
-pub returns-in_err-strip_prefix : goal.returns-in_err-strip_prefix
-returns-in_err-strip_prefix c = ap read_off c.from_residual.ensures ∙ field_none _ _ c.in_err-strip_prefix.ensures.cases
+pub returns-then-not-starts_with : goal.returns-then-not-starts_with
+returns-then-not-starts_with c = handed_none c.args.s c.args.key.now (sym c.starts_with.ensures.value ∙ c.if-not-starts_with.true)
 
 pub returns : goal.returns
-returns c = let f = c.in_ok-strip_prefix in field_some _ _ f.ensures.cases.0 f.ensures.cases.1 c.number.ensures
+returns c =
+    c.number.ensures
+    ∙ handed_field c.args.s c.args.key.now (sym c.starts_with.ensures.value ∙ c.if-not-starts_with.false) (search rules)

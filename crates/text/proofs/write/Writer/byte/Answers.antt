@@ -1,15 +1,8 @@
--- `byte` meets its contract: past the end nothing is stored.
+-- `byte` meets its contract: a writer whose buffer and position were written so.
+use mathlib.Core.List.{[], ◌∷◌}
 use Rattle.text.proofs as own
-use mathlib.Core.Path.{refl, sym}
-use lib.Seq.{set_out}
-use Rattle.text.specs.Write.{next_position}
-use own.Writing.{writes_byte}
-use own.write.Writer.byte.Goals.{then-self, else-self}
+use own.Putting.{written}
 use own.write.Writer.byte.Goals as goal
 
 pub returns : goal.returns
-unfolding next_position
-returns c = elim c.if-self.branch [
-  | then-self w ↦ rw (c.saturating_add-self.ensures, w.self-is) (writes_byte _ _ refl refl)
-  | else-self w ↦ rw (c.saturating_add-self.ensures, w.self-is) (writes_byte _ _ (sym (set_out _ _ _ w.if-self.false)) refl)
-]
+returns c = written _ (c.args.byte ∷ []) c.put_byte-self.ensures
