@@ -2,3 +2,4 @@ pub mod Model
 pub mod Board
 pub mod Range
 pub mod Found
+pub mod Cache

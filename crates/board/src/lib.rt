@@ -2,7 +2,9 @@
 // parameters, so that one text is the code of both models.
 #![tactic(auto)]
 
+pub mod entry;
 pub mod lines;
+pub mod premium;
 pub mod range;
 pub mod rights;
 pub mod shape;

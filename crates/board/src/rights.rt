@@ -1,11 +1,12 @@
 // The rights of all pages: as one array of numbers, by which before and after are compared, and what a withdrawal takes of them.
 ghost use Rattle.std.specs.Prelude.{◌≡◌};
-ghost use Rattle.lend_code.specs.Inner.{rights_of, left_of, cut_slots, lost_all};
+ghost use Rattle.lend_code.specs.Inner.{rights_of, left_of, rights_left, slots_with, cut_slots, lost_all};
 ghost use Rattle.board.specs.Model.{sizes};
 ghost use Rattle.board.specs.Board.{tables, with_slots};
 
 use crate::summary::gone;
 use crate::{Board, Shape};
+use lend::Slot;
 
 // What is left of a page's rights when it loses d, if it does.
 fn left(rights: u8, loses: bool, d: u8) -> u8
@@ -48,6 +49,26 @@ impl<const SPACES: usize, const PAGES: usize, const SLOTS: usize, const PLACES: 
     SLOTS,
     PLACES,
 > {
+    // What is left of these rights when the pages of the set lose d, whatever rights they are.
+    pub fn rights_left(self, mut rights: [u8; SLOTS], set: &[bool; SLOTS], d: u8) -> [u8; SLOTS]
+        ensures { result ≡ rights_left (sizes SPACES PAGES PLACES) rights.entry set.now d }
+    {
+        for k in 0..SLOTS {
+            rights[k] = left(rights[k], set[k], d);
+        }
+        rights
+    }
+
+    // The slots with these rights instead of their own; one that has none is empty.
+    pub fn slots_with(self, mut slots: [Slot; SLOTS], rights: &[u8; SLOTS]) -> [Slot; SLOTS]
+        ensures { result ≡ slots_with (sizes SPACES PAGES PLACES) slots.entry rights.now }
+    {
+        for k in 0..SLOTS {
+            slots[k] = slots[k].with_rights(rights[k]);
+        }
+        slots
+    }
+
     // How many pages had a right before and have none after.
     pub fn lost_all(self, before: &[u8; SLOTS], after: &[u8; SLOTS]) -> u32
         ensures { result ≡ lost_all (sizes SPACES PAGES PLACES) before.now after.now }

@@ -4,6 +4,8 @@ ghost use Rattle.lend.specs.Sizes.{key as key_of};
 ghost use Rattle.lend_code.specs.Inner.{inside_of, only_page, space_pages};
 ghost use Rattle.board.specs.Model.{sizes, IsModel};
 
+use crate::{entry, premium};
+
 // The bytes of a page, and of a frame.
 pub const PAGE_BYTES: usize = 1024;
 
@@ -13,9 +15,19 @@ pub struct Shape<const SPACES: usize, const PAGES: usize, const SLOTS: usize, co
     ghost is_model: { IsModel SPACES PAGES SLOTS PLACES },
 }
 
-pub const ENTRY: Shape<8, 32, 256, 8> = Shape {};
+// The shape of each model's boards.
+pub type Entry = Shape<{ entry::SPACES }, { entry::PAGES }, { entry::SLOTS }, { entry::PLACES }>;
 
-pub const PREMIUM: Shape<16, 64, 1024, 16> = Shape {};
+pub type Premium = Shape<
+    { premium::SPACES },
+    { premium::PAGES },
+    { premium::SLOTS },
+    { premium::PLACES },
+>;
+
+pub const ENTRY: Entry = Shape {};
+
+pub const PREMIUM: Premium = Shape {};
 
 impl<const SPACES: usize, const PAGES: usize, const SLOTS: usize, const PLACES: usize> Shape<
     SPACES,

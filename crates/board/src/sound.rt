@@ -9,6 +9,7 @@ ghost use Rattle.lend.specs.Cache.{place_at};
 ghost use Rattle.lend.specs.SoundTest.{slot_test, pages_test, is_empty_place, sound_test, Tells};
 ghost use Rattle.lend.specs.declared.refusal.Refusal.TheVariants.{Unsound};
 ghost use Rattle.lend_code.specs.Inner.{lent_fits, place_fits, place_ok, places_fit};
+ghost use Rattle.lend_code.specs.Earlier.{frames_found};
 ghost use Rattle.board.specs.Model.{sizes};
 ghost use Rattle.board.specs.Board.{tables};
 ghost use Rattle.board.specs.Found.{pages_of};
@@ -22,6 +23,13 @@ pub struct Pages<const PAGES: usize, const SLOTS: usize> {
     pub rights: [u8; SLOTS],
     pub frames: [u8; SLOTS],
     pub counts: [Count; PAGES],
+}
+
+// What the test of soundness tells of any board: whether it is sound, and the frame of each page where the pages are.
+#[derive(Clone, Copy)]
+pub struct Checked<const SLOTS: usize> {
+    pub sound: bool,
+    pub frames: [u8; SLOTS],
 }
 
 impl<const SPACES: usize, const PAGES: usize, const SLOTS: usize, const PLACES: usize> Board<
@@ -153,6 +161,39 @@ impl<const SPACES: usize, const PAGES: usize, const SLOTS: usize, const PLACES: 
             return Ok(pages);
         }
         Err(Refusal::Unsound)
+    }
+
+    // Whether the board is sound, and the frames that were found on the way, also where only the cache or the summary is wrong.
+    pub fn checked(&self) -> Checked<SLOTS>
+        ensures sound { result.sound ≡ sound_test (sizes SPACES PAGES PLACES) (tables self.now) }
+        ensures frames { result.frames ≡ frames_found (sizes SPACES PAGES PLACES) self.now.slots self.now.live }
+    {
+        match self.check() {
+            Ok(pages) => {
+                let frames = pages.frames;
+                Checked {
+                    sound: true,
+                    frames,
+                }
+            }
+            Err(_) => {
+                let frames = self.frames_found();
+                Checked {
+                    sound: false,
+                    frames,
+                }
+            }
+        }
+    }
+
+    // The frames of all pages where these are sound, else zeros.
+    fn frames_found(&self) -> [u8; SLOTS]
+        ensures { result ≡ frames_found (sizes SPACES PAGES PLACES) self.now.slots self.now.live }
+    {
+        match self.examine() {
+            Some(pages) => pages.frames,
+            None => [0; SLOTS],
+        }
     }
 
     // Whether the board is sound, whatever numbers stand in it.

@@ -7,6 +7,7 @@ ghost use Rattle.lend_code.specs.Inner.{lost_in};
 ghost use Rattle.board.specs.Model.{sizes};
 ghost use Rattle.board.specs.Board.{tables, with_places};
 ghost use Rattle.board.specs.Found.{if_below, place_found};
+ghost use Rattle.board.specs.Cache.{insert_in, drop_entry, drop_lost};
 
 use crate::{Board, Cache, Shape};
 use lend::Place;
@@ -63,26 +64,69 @@ impl<const SPACES: usize, const PAGES: usize, const SLOTS: usize, const PLACES: 
     }
 }
 
+impl<const PLACES: usize> Cache<PLACES> {
+    // The entry goes to the lowest empty place; with none empty to the next place to replace, whose number then moves on.
+    pub fn insert<const SPACES: usize, const PAGES: usize, const SLOTS: usize>(
+        mut self,
+        shape: Shape<SPACES, PAGES, SLOTS, PLACES>,
+        place: Place,
+    ) -> Self
+        ensures { result ≡ insert_in self.entry place }
+    {
+        match self.empty_place() {
+            Some(at) => self.places[at] = place,
+            None => {
+                let at = usize::from(self.next);
+                self.next = shape.place_after(self.next);
+                if at < PLACES {
+                    self.places[at] = place;
+                }
+            }
+        }
+        self
+    }
+
+    // The place gets the empty form; the others and the next place to replace stay.
+    pub fn drop_entry(mut self, place: usize) -> Self
+        ensures { result ≡ drop_entry self.entry place }
+    {
+        if place < PLACES {
+            self.places[place] = Place::EMPTY;
+        }
+        self
+    }
+
+    // The entry of each page that lost a right is dropped.
+    pub fn drop_lost<const SPACES: usize, const PAGES: usize, const SLOTS: usize>(
+        mut self,
+        shape: Shape<SPACES, PAGES, SLOTS, PLACES>,
+        before: &[u8; SLOTS],
+        after: &[u8; SLOTS],
+    ) -> Self
+        ensures { result ≡ drop_lost (sizes SPACES PAGES PLACES) self.entry before.now after.now }
+    {
+        for place in &mut self.places {
+            let k = shape.key(place.space, place.page);
+            if k < SLOTS && !lend::within(before[k], after[k]) {
+                *place = Place::EMPTY;
+            }
+        }
+        self
+    }
+}
+
+// A board's own cache, by the same methods.
 impl<const SPACES: usize, const PAGES: usize, const SLOTS: usize, const PLACES: usize> Board<
     SPACES,
     PAGES,
     SLOTS,
     PLACES,
 > {
-    // The entry goes to the lowest empty place; with none empty to the next place to replace, whose number then moves on.
+    // The entry goes to the cache.
     pub fn insert(&mut self, place: Place)
         ensures { tables self.new ≡ with_entry (tables self.old) place }
     {
-        match self.cache.empty_place() {
-            Some(at) => self.cache.places[at] = place,
-            None => {
-                let at = usize::from(self.cache.next);
-                self.cache.next = self.shape.place_after(self.cache.next);
-                if at < PLACES {
-                    self.cache.places[at] = place;
-                }
-            }
-        }
+        self.cache = self.cache.insert(self.shape, place);
     }
 
     // The entry of the page is dropped, where there is one.
@@ -90,7 +134,7 @@ impl<const SPACES: usize, const PAGES: usize, const SLOTS: usize, const PLACES: 
         ensures { tables self.new ≡ with_places (tables self.old) (dropped self.old.cache.places (place_for space page self.old.cache.places)) }
     {
         if let Some(at) = self.cache.place_for(space, page) {
-            self.cache.places[at] = Place::EMPTY;
+            self.cache = self.cache.drop_entry(at);
         }
     }
 
@@ -98,11 +142,6 @@ impl<const SPACES: usize, const PAGES: usize, const SLOTS: usize, const PLACES: 
     pub fn drop_lost(&mut self, before: &[u8; SLOTS], after: &[u8; SLOTS])
         ensures { tables self.new ≡ with_places (tables self.old) (dropped_where (sizes SPACES PAGES PLACES) (lost_in before.now after.now) self.old.cache.places) }
     {
-        for place in &mut self.cache.places {
-            let k = self.shape.key(place.space, place.page);
-            if k < SLOTS && !lend::within(before[k], after[k]) {
-                *place = Place::EMPTY;
-            }
-        }
+        self.cache = self.cache.drop_lost(self.shape, before, after);
     }
 }

@@ -1,9 +1,8 @@
 -- A run over the pages of a range, from its first checks to its outcome, over plain variables: it goes as the one of the rules does.
-use mathlib.Core.Path.{◌≡◌, refl, ap, ◌∙◌}
+use mathlib.Core.Path.{◌≡◌, refl, sym, ap, ◌∙◌}
 use mathlib.Core.List.{List}
 use Prim.Native.Nat.{ℕ, ◌+◌, ◌≤◌, ◌<◌}
 use native.Mathlib.Omega.{arith}
-use borrow.Author.Tests.{lt-ltb}
 use Rattle.std.specs.declared.option.Option.{Option}
 use Rattle.std.specs.declared.option.Option.TheVariants.{Some, None}
 use Rattle.std.specs.declared.result.Result.{Result}
@@ -27,19 +26,32 @@ use Rattle.calls.proofs.Refused.{not_done}
 abbrev run_outcome : Sizes → Progress → Tables → RangeOutcome
 run_outcome z p t = record { number = refused_number p.refused; done = p.done; offset = refused_offset z.pages p.refused; emptied = 0; state = alone t }
 
--- one page more is one page more of the rules
-more : (z : Sizes) (p : Progress) (i : ℕ) (page : Result ℕ Refusal) (t u : Tables) → p.done < z.pages
-    → run_outcome z (page_made p i page) u ≡ made_one z (run_outcome z p t) (outcome page u) i
+-- one page more is one page more of the rules, whatever was counted before
+pub made_law : (z : Sizes) (p : Progress) (i : ℕ) (page : Result ℕ Refusal) (t u : Tables)
+    → range_outcome z (Ok (page_made z.pages p i page)) u ≡ made_one z (range_outcome z (Ok p) t) (outcome page u) i
 unfolding made_one one_more
-more z p i page t u h = go p.refused page
+made_law z p i page t u = go p.refused page
   where
     go : (refused : Option (ℕ × Refusal)) (page : Result ℕ Refusal)
-        → run_outcome z (page_made (record { done = p.done; refused = refused; emptied = p.emptied }) i page) u
-        ≡ made_one z (run_outcome z (record { done = p.done; refused = refused; emptied = p.emptied }) t) (outcome page u) i
-    go None (Ok n) = rw (lt-ltb p.done z.pages h)
-    go (Some x) (Ok n) = rw (lt-ltb p.done z.pages h, refusal_not_done x.1)
+        → range_outcome z (Ok (page_made z.pages (record { done = p.done; refused = refused; emptied = p.emptied }) i page)) u
+        ≡ made_one z (range_outcome z (Ok (record { done = p.done; refused = refused; emptied = p.emptied })) t) (outcome page u) i
+    go None (Ok n) = refl
+    go (Some x) (Ok n) = rw (refusal_not_done x.1)
     go None (Err r) = rw (refusal_not_done r)
     go (Some x) (Err r) = rw (refusal_not_done r, refusal_not_done x.1)
+
+-- nothing that was emptied is counted yet
+made_empty : (pages : ℕ) (p : Progress) (i : ℕ) (page : Result ℕ Refusal) → (page_made pages p i page).emptied ≡ 0
+made_empty pages p i (Ok n) = refl
+made_empty pages p i (Err r) = refl
+
+more : (z : Sizes) (p : Progress) (i : ℕ) (page : Result ℕ Refusal) (t u : Tables)
+    → run_outcome z (page_made z.pages p i page) u ≡ made_one z (run_outcome z p t) (outcome page u) i
+unfolding made_one
+more z p i page t u =
+    let q = page_made z.pages p i page in
+    (λ j. record { number = refused_number q.refused; done = q.done; offset = refused_offset z.pages q.refused; emptied = sym (made_empty z.pages p i page) j; state = alone u })
+    ∙ made_law z p i page t u
 
 -- refused by the first checks
 pub run_refused : (z : Sizes) (b : Tables) (c : RangeCall) (r : Refusal) → number_of r ≡ range_number z (alone b) c → range_outcome z (Err r) b ≡ range_step z (alone b) c
@@ -65,10 +77,10 @@ module _ {z : Sizes} {b : Tables} {c : RangeCall} {m : ℕ} where
 
     -- one page more
     pub run_more : 1 ≤ z.pages → i < m → (call : Call) → call ≡ page_call z c i → (page : Result ℕ Refusal) (u : Tables)
-        → outcome page u ≡ step z (alone t) call → (q : Progress) → q ≡ page_made p i page → Run z b c m q u (i + 1)
+        → outcome page u ≡ step z (alone t) call → (q : Progress) → q ≡ page_made z.pages p i page → Run z b c m q u (i + 1)
     run_more some-page h call is-call page u is-page q is-q =
         let on = going_more z some-page (alone b) c (run_outcome z p t) i run.so_far m run.pages h call is-call (outcome page u) is-page (run_outcome z q u)
-        (ap (λ (x : Progress). run_outcome z x u) is-q ∙ more z p i page t u (omega (arith, run.so_far.counted, run.pages, pages_small z c))) (i + 1) refl
+        (ap (λ (x : Progress). run_outcome z x u) is-q ∙ more z p i page t u) (i + 1) refl
         in record { passed = run.passed; pages = run.pages; so_far = on; sound = on.sound }
 
     -- and all of them

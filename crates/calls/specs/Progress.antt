@@ -1,6 +1,6 @@
 -- What a call over a range answers, as an outcome of the rules: the number and the offset of the first refused page, how many pages were done, the
 -- count of pages that it emptied, and the board after it. A refusal of the first checks has every other field 0.
-use Rattle.std.specs.Prelude.{ℕ, ◌+◌, ◌≡◌, refl}
+use Rattle.std.specs.Prelude.{ℕ, ◌+◌, ◌≡◌, refl, cond, ltb}
 use Rattle.std.specs.declared.option.Option.{Option}
 use Rattle.std.specs.declared.option.Option.TheVariants.{Some, None}
 use Rattle.std.specs.declared.result.Result.{Result}
@@ -31,14 +31,15 @@ range_outcome z (Ok p) t = record {
 }
 range_outcome z (Err r) t = record { number = number_of r; done = 0; offset = 0; emptied = 0; state = alone t }
 
--- after the page at offset i: a done one is counted, and of the refused ones the first is remembered
+-- after the page at offset i: a done one is counted, up to all pages of a space, and of the refused ones the first is remembered; what was
+-- emptied is counted at the end
 abbrev pub first_of_two : Option (ℕ × Refusal) → ℕ → Refusal → Option (ℕ × Refusal)
 first_of_two None i r = Some (i, r)
 first_of_two (Some x) i r = Some x
 
-abbrev pub page_made : Progress → ℕ → Result ℕ Refusal → Progress
-page_made p i (Ok n) = record { done = p.done + 1; refused = p.refused; emptied = p.emptied }
-page_made p i (Err r) = record { done = p.done; refused = first_of_two p.refused i r; emptied = p.emptied }
+abbrev pub page_made : ℕ → Progress → ℕ → Result ℕ Refusal → Progress
+page_made pages p i (Ok n) = record { done = cond (ltb p.done pages) (p.done + 1) p.done; refused = p.refused; emptied = 0 }
+page_made pages p i (Err r) = record { done = p.done; refused = first_of_two p.refused i r; emptied = 0 }
 
 -- the board with no memory beside it, whatever was answered
 pub range_state : (z : Sizes) (r : Result Progress Refusal) (t : Tables) → alone t ≡ (range_outcome z r t).state

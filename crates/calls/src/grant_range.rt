@@ -37,7 +37,7 @@ pub fn grant_range<
     let mut run = Progress::NONE;
     for i in 0..given.count {
         let page = grant_page(b, from, given.first + i, to, taken.first + i, rights);
-        run.page_made(i, page);
+        run.page_made(b.shape, i, page);
     }
     run.emptied = b.shape.lost_all(&before, &b.rights());
     Ok(run)

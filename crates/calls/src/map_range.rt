@@ -32,7 +32,7 @@ pub fn map_range<const SPACES: usize, const PAGES: usize, const SLOTS: usize, co
     let mut run = Progress::NONE;
     for i in 0..given.count {
         let page = map_page(b, from, given.first + i, to, taken.first + i, rights);
-        run.page_made(i, page);
+        run.page_made(b.shape, i, page);
     }
     run.emptied = b.shape.lost_all(&before, &b.rights());
     Ok(run)

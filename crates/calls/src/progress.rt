@@ -1,7 +1,8 @@
 // How far a call over a range has come.
-ghost use Rattle.std.specs.Prelude.{◌≡◌, ◌<◌};
+ghost use Rattle.std.specs.Prelude.{◌≡◌};
 ghost use Rattle.calls.specs.Progress.{page_made};
 
+use board::Shape;
 use lend::Refusal;
 
 // How many pages were done; the first refused page by its offset, with what refused it; how many pages the whole call emptied.
@@ -20,14 +21,23 @@ impl Progress {
         emptied: 0,
     };
 
-    // After the page at offset i: a done one is counted, and of the refused ones the first is remembered.
-    pub(crate) fn page_made(&mut self, i: u32, page: Result<u32, Refusal>)
-        requires { self.old.done < 4294967295 }
-        ensures { self.new ≡ page_made self.old i page }
+    // After the page at offset i: a done one is counted, up to all of them, and of the refused ones the first is remembered.
+    pub fn page_made<
+        const SPACES: usize,
+        const PAGES: usize,
+        const SLOTS: usize,
+        const PLACES: usize,
+    >(&mut self, _shape: Shape<SPACES, PAGES, SLOTS, PLACES>, i: u32, page: Result<u32, Refusal>)
+        ensures { self.new ≡ page_made PAGES self.old i page }
     {
         match page {
-            Ok(_) => self.done += 1,
+            Ok(_) => {
+                if (self.done as usize) < PAGES {
+                    self.done += 1;
+                }
+            }
             Err(refusal) => self.refused = self.refused.or(Some((i, refusal))),
         }
+        self.emptied = 0;
     }
 }

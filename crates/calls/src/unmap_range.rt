@@ -34,7 +34,7 @@ pub fn unmap_range<
     let mut run = Progress::NONE;
     for i in 0..range.count {
         let page = unmap_page(b, space, range.first + i, rights);
-        run.page_made(i, page);
+        run.page_made(b.shape, i, page);
     }
     run.emptied = b.shape.lost_all(&before, &b.rights());
     Ok(run)

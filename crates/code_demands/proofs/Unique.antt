@@ -20,6 +20,7 @@ use Rattle.lend_basics.proofs.Unique.{one_result}
 use Rattle.image.specs.Answered.{Left, left}
 use Rattle.board.specs.declared.lines.Lookup.{Lookup}
 use Rattle.board.specs.declared.range.Range.{Range}
+use Rattle.board.specs.declared.sound.Checked.{Checked}
 use Rattle.board.specs.declared.Board.{Board}
 use Rattle.board.specs.Board.{tables}
 use Rattle.board.specs.Range.{range_meant, range_back, range_back_meant}
@@ -42,6 +43,10 @@ one_told v w = v.as_test ∙ sym w.as_test
 -- `lookup`, whose contract gives the frame and the links: there is no other field
 pub one_lookup : {end far : ℕ} {r s : Lookup} → r.frame ≡ end → r.links ≡ far → s.frame ≡ end → s.links ≡ far → r ≡ s
 one_lookup rf rl sf sl = λ i. record { frame = (rf ∙ sym sf) i; links = (rl ∙ sym sl) i }
+
+-- `checked`, whose contract gives whether the board is sound and the frames of its pages: there is no other field
+pub one_checked : {n : ℕ} {is : Bool} {ends : List ℕ} {r s : Checked n} → r.sound ≡ is → r.frames ≡ ends → s.sound ≡ is → s.frames ≡ ends → r ≡ s
+one_checked rs rf ss sf = λ i. record { sound = (rs ∙ sym ss) i; frames = (rf ∙ sym sf) i }
 
 -- a function whose contract is `result ≡ ..`, as those of `examine`, `check` and `tally` are
 pub one_value : {A : Type 0} {meaning r s : A} → r ≡ meaning → s ≡ meaning → r ≡ s

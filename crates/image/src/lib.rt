@@ -58,6 +58,19 @@ pub fn slot_from(bytes: [u8; 4]) -> Option<Slot>
     Some(Slot { link, rights })
 }
 
+// The slot of any four bytes: a kind that is not known gives no link, and a number that the kind does not use is not looked at.
+pub fn slot_of(bytes: [u8; 4]) -> Slot
+    ensures { result ≡ slot_in bytes 0 }
+{
+    let [kind, first, second, rights] = bytes;
+    let link = match kind {
+        1 => Link::Frame(first),
+        2 => Link::Page(first, second),
+        _ => Link::Nothing,
+    };
+    Slot { link, rights }
+}
+
 // The place of four bytes.
 pub fn place_from(bytes: [u8; 4]) -> Place
     ensures { result ≡ place_in bytes 0 }

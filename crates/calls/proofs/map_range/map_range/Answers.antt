@@ -5,7 +5,7 @@ use borrow.Author.Rules.{rules}
 use Rattle.std.proofs.lemmas.Result.{err_from_is_err_and}
 use Rattle.lend_code.proofs.RangeLoop.{first_in_law, count_in_law, map_range_number, map_range_pages, map_range_call}
 use Rattle.board.specs.Board.{tables}
-use Rattle.calls.proofs.RangeRuns.{run_refused, run_none, run_small, run_more, run_all}
+use Rattle.calls.proofs.RangeRuns.{run_refused, run_none, run_more, run_all}
 use Rattle.calls.proofs.map_range.map_range.Goals as goal
 
 pub returns-in_err-given-clause-first_checks : goal.returns-in_err-given-clause-first_checks
@@ -35,9 +35,6 @@ overflow_add-taken g c =
 
 pub map_page-page-requires : goal.map_page-page-requires
 map_page-page-requires g c = (search rules, c.loop-i.invariant.sound)
-
-pub page_made-requires : goal.page_made-requires
-page_made-requires g c = run_small c.loop-i.invariant c.args.b.now.shape.is_model.few_pages c.loop-i-test.true
 
 pub loop-i-preserved : goal.loop-i-preserved
 loop-i-preserved g c =

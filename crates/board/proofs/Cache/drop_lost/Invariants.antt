@@ -2,7 +2,7 @@
 use Rattle.lend_code.specs.Inner.{lost_in}
 use Rattle.lend_code.proofs.Drops.{Dropping}
 use Rattle.board.specs.Model.{sizes}
-use Rattle.board.proofs.Board.drop_lost.Given as goal
+use Rattle.board.proofs.Cache.drop_lost.Given as goal
 
 abbrev pub invariant-loop-place : goal.invariant-loop-place
 invariant-loop-place g l =

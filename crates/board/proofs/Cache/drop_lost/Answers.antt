@@ -11,9 +11,8 @@ use Rattle.lend_basics.proofs.Lists.{length_unmap}
 use Rattle.lend_code.specs.Inner.{lost_in}
 use Rattle.lend_code.proofs.Drops.{dropping_none, dropping_yes, dropping_no, dropping_all, lost_past}
 use Rattle.board.specs.Model.{sizes}
-use Rattle.board.specs.Board.{tables, with_places}
-use Rattle.board.proofs.Board.drop_lost.Goals as goal
-use Rattle.board.proofs.Board.drop_lost.Goals.{then-k+then-not-within, else-k, else-k-via-then-k+else-not-within, else-k-via-else-k}
+use Rattle.board.proofs.Cache.drop_lost.Goals as goal
+use Rattle.board.proofs.Cache.drop_lost.Goals.{then-k+then-not-within, else-k, else-k-via-then-k+else-not-within, else-k-via-else-k}
 
 pub loop-place-init : goal.loop-place-init
 loop-place-init g c = dropping_none _ _ _
@@ -21,7 +20,7 @@ loop-place-init g c = dropping_none _ _ _
 pub loop-place-preserved : goal.loop-place-preserved
 loop-place-preserved g c =
     let inv = c.loop-place.invariant in
-    let long : length c.args.self.now.cache.places ≡ g.row.PLACES = search (rules, length_unmap) in
+    let long : length c.args.self.places ≡ g.row.PLACES = search (rules, length_unmap) in
     let page = ap (λ (k : ℕ). lost_in c.args.before.now c.args.after.now k) (sym c.key-k.ensures) in
     elim c.if-k.branch [
       | then-k+then-not-within w ↦ rw w.place-items-is (dropping_yes _ _ inv (omega (arith, long, c.loop-place-test.true)) (page ∙ ap not (sym w.within.ensures ∙ w.if-not-within.true)))
@@ -33,6 +32,6 @@ loop-place-preserved g c =
 
 pub returns : goal.returns
 returns g c =
-    let long : length c.args.self.now.cache.places ≡ g.row.PLACES = search (rules, length_unmap) in
-    ap (with_places (tables c.args.self.now))
-    (dropping_all (sizes g.row.SPACES g.row.PAGES g.row.PLACES) (lost_in c.args.before.now c.args.after.now) c.loop-place.invariant (omega (arith, long, c.loop-place-test.false)))
+    let long : length c.args.self.places ≡ g.row.PLACES = search (rules, length_unmap) in
+    let all = dropping_all (sizes g.row.SPACES g.row.PAGES g.row.PLACES) (lost_in c.args.before.now c.args.after.now) c.loop-place.invariant (omega (arith, long, c.loop-place-test.false)) in
+    λ i. record { places = all i; next = c.args.self.next }
