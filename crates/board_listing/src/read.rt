@@ -1,35 +1,41 @@
 // A board read from its listing. Any bytes are taken: malformed ones are refused where the first of them is found, disorder and an
 // unsound board at the end.
-ghost use Rattle.std.specs.Prelude.{◌≡◌, T, true};
+ghost use Rattle.std.specs.Prelude.{◌≡◌, T};
 ghost use Rattle.listing.specs.Content.{row_key, row_slot, board_with};
 ghost use Rattle.listing.specs.Read.{judged as judged_of, reading, row_in, row_fits, fitting};
 ghost use Rattle.listing.specs.Loop.{read_from};
 ghost use Rattle.board.specs.Model.{sizes};
-ghost use Rattle.board_listing.specs.Answer.{answer};
+ghost use Rattle.board_listing.specs.Answer.{answer, answered};
 
 use crate::live::{live_flags, live_number};
 use board::{Board, Shape};
 use calls::start::start;
-use lend::{Link, Refusal, Slot};
+use lend::{Count, Link, Refusal, Slot};
 use listing::read::{Row, ended, held_line, judged, live_line, page_line, rises};
 use text::line::line_end;
 
 // The board with these slots, their summary and these live spaces, or what is against it.
 fn board_with<const SPACES: usize, const PAGES: usize, const SLOTS: usize, const PLACES: usize>(
     shape: Shape<SPACES, PAGES, SLOTS, PLACES>,
+    formed: bool,
     ordered: bool,
     slots: &[Slot; SLOTS],
     live: u32,
 ) -> Result<Board<SPACES, PAGES, SLOTS, PLACES>, Refusal>
-    ensures { answer (sizes SPACES PAGES PLACES) result ≡ judged_of (sizes SPACES PAGES PLACES) true ordered (board_with (sizes SPACES PAGES PLACES) slots.now live) }
+    ensures { answer (sizes SPACES PAGES PLACES) result ≡ judged_of (sizes SPACES PAGES PLACES) formed ordered (board_with (sizes SPACES PAGES PLACES) slots.now live) }
 {
     let mut b = start(shape);
     b.slots = *slots;
     let live = live_flags(shape, live);
     b.live = live;
     let pages = b.examine();
-    judged(true, ordered, pages.is_some())?;
-    let counts = pages.ok_or(Refusal::Unsound)?.counts;
+    let fit = pages.is_some();
+    judged(formed, ordered, fit)?;
+    // None is refused above: the three tests alone decide.
+    let counts = match pages {
+        Some(p) => p.counts,
+        None => [Count::NONE; PAGES],
+    };
     b.summary = counts;
     Ok(b)
 }
@@ -97,10 +103,10 @@ fn read_from<const SPACES: usize, const PAGES: usize, const SLOTS: usize, const 
     while from < text.len() {
         let end = line_end(text, from);
         if text.len() <= end + 1 {
-            let held = held_line(&text[from..end], (SLOTS - PAGES) as u32).ok_or(
-                Refusal::MalformedListing,
-            )?;
-            return board_with(shape, rising & (count == held as usize), &slots, live);
+            let held = held_line(&text[from..end], (SLOTS - PAGES) as u32);
+            let formed = held.is_some();
+            let ordered = rising & (count == held.unwrap_or(0) as usize);
+            return board_with(shape, formed, ordered, &slots, live);
         }
         let row = row_of(shape, &text[from..end]).ok_or(Refusal::MalformedListing)?;
         let k = shape.key(row.space as u8, row.page as u8);
@@ -132,4 +138,35 @@ pub fn read_listing<
     let most = live_number(shape, &[true; SPACES]);
     let live = live_line(&text[..end], most).ok_or(Refusal::MalformedListing)?;
     read_from(shape, text, live, end + 1)
+}
+
+// What a text is read as: the board that it says, or the start board with what refuses the text.
+#[derive(Clone, Copy)]
+pub struct Read<const SPACES: usize, const PAGES: usize, const SLOTS: usize, const PLACES: usize> {
+    pub refused: Option<Refusal>,
+    pub board: Board<SPACES, PAGES, SLOTS, PLACES>,
+}
+
+// Reads any bytes, and has a board whatever they are.
+pub fn read_or_start<
+    const SPACES: usize,
+    const PAGES: usize,
+    const SLOTS: usize,
+    const PLACES: usize,
+>(shape: Shape<SPACES, PAGES, SLOTS, PLACES>, text: &[u8]) -> Read<SPACES, PAGES, SLOTS, PLACES>
+    ensures { answered result ≡ reading (sizes SPACES PAGES PLACES) text.now }
+{
+    match read_listing(shape, text) {
+        Ok(board) => Read {
+            refused: None,
+            board,
+        },
+        Err(refusal) => {
+            let board = start(shape);
+            Read {
+                refused: Some(refusal),
+                board,
+            }
+        }
+    }
 }

@@ -8,9 +8,8 @@ use board::Shape;
 use board_image::image_bytes;
 use board_image::read::read_image;
 use board_image::write::write_image;
-use board_listing::read::read_listing as read_board;
+use board_listing::read::read_or_start;
 use board_listing::write::write_listing as write_board;
-use calls::start::start as start_of;
 use lend::Refusal;
 
 // The image is only read.
@@ -53,14 +52,7 @@ pub fn read_listing<
     if image.len() != image_bytes(shape) {
         return u32::from(Refusal::Unsound);
     }
-    match read_board(shape, text) {
-        Ok(b) => {
-            write_image(image, &b);
-            0
-        }
-        Err(refusal) => {
-            write_image(image, &start_of(shape));
-            u32::from(refusal)
-        }
-    }
+    let read = read_or_start(shape, text);
+    write_image(image, &read.board);
+    read.refused.map_or(0, u32::from)
 }

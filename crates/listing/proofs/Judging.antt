@@ -67,25 +67,27 @@ unfolding start_board
 board_made z slots n b live counts hb hl hc = rw (hb, hl, hc) refl
 
 -- where nothing refuses it, its pages fit
-pub none_against : (ordered fit : Bool) → 0 ≡ refusal true ordered fit → T fit
+pub none_against : (formed ordered fit : Bool) → 0 ≡ refusal formed ordered fit → T fit
 unfolding refusal
-none_against ordered true e = tt
-none_against true false e = absurd (omega arith)
-none_against false false e = absurd (omega arith)
+none_against formed ordered true e = tt
+none_against true true false e = absurd (omega arith)
+none_against true false false e = absurd (omega arith)
+none_against false ordered false e = absurd (omega arith)
 
 -- what refuses it by the tests, and the answer by that: pages that fit are told as such, with their counts
-module _ (z : Sizes) (one : 1 ≤ z.places) (slots : List Slot) (long : length slots ≡ slot_count z) (ordered : Bool) (n : ℕ) {live : List Bool}
+module _ (z : Sizes) (one : 1 ≤ z.places) (slots : List Slot) (long : length slots ≡ slot_count z) (formed ordered : Bool) (n : ℕ) {live : List Bool}
     (l : live ≡ live_flags z.spaces n) {fit : Bool} (t : fit ≡ pages_test z live (slot_at slots)) where
   fit_tells : fit ≡ sound_test z (board_with z slots n)
   fit_tells = t ∙ (ap (λ (x : List Bool). pages_test z x (slot_at slots)) l ∙ sym (board_test z slots n one long))
 
-  judged_is : {number : ℕ} → number ≡ refusal true ordered fit → by_number z (board_with z slots n) number ≡ judged z true ordered (board_with z slots n)
+  judged_is : {number : ℕ} → number ≡ refusal formed ordered fit → by_number z (board_with z slots n) number ≡ judged z formed ordered (board_with z slots n)
   unfolding judged
-  judged_is q = ap (by_number z (board_with z slots n)) (q ∙ ap (refusal true ordered) fit_tells)
+  judged_is q = ap (by_number z (board_with z slots n)) (q ∙ ap (refusal formed ordered) fit_tells)
 
-  pub judged_refused : (r : Refusal) → number_of r ≡ refusal true ordered fit → refused z (number_of r) ≡ judged z true ordered (board_with z slots n)
+  pub judged_refused : (r : Refusal) → number_of r ≡ refusal formed ordered fit → refused z (number_of r) ≡ judged z formed ordered (board_with z slots n)
   judged_refused r q = rw (refusal_not_done r) at (judged_is q)
 
-  pub judged_accepted : 0 ≡ refusal true ordered fit → (b : Tables) → b ≡ start_board z → (counts : List Count) → counts ≡ summary_of z (slot_at slots)
-      → accepted (record { slots = slots; live = live; places = b.places; next = b.next; summary = counts }) ≡ judged z true ordered (board_with z slots n)
-  judged_accepted q b hb counts hc = ap accepted (board_made z slots n b live counts hb l hc) ∙ judged_is q
+  pub judged_accepted : 0 ≡ refusal formed ordered fit → (b : Tables) → b ≡ start_board z → (counts : List Count) → (T fit → counts ≡ summary_of z (slot_at slots))
+      → accepted (record { slots = slots; live = live; places = b.places; next = b.next; summary = counts }) ≡ judged z formed ordered (board_with z slots n)
+  judged_accepted q b hb counts hc =
+      ap accepted (board_made z slots n b live counts hb l (hc (none_against formed ordered fit q))) ∙ judged_is q

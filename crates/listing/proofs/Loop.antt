@@ -4,6 +4,7 @@ use mathlib.Core.Path.{◌≡◌, refl, sym, ap, ◌∙◌}
 use mathlib.Core.Bool.{Bool, true, false, ◌&&◌, false≢true}
 use mathlib.Core.List.{List, [], ◌∷◌}
 use Rattle.std.specs.Prelude.{Option, Some, None, option_and_then}
+use Rattle.std.specs.Option.{is_some, unwrap_or}
 use native.Mathlib.Omega.{arith}
 use lib.ListN.{length, drop, take, set, drop_of_length-le, length-drop}
 use lib.Seq.{drop-drop}
@@ -16,7 +17,7 @@ use Rattle.text.proofs.Seeking.{lines_first}
 use Rattle.listing.specs.Live.{all_live}
 use Rattle.listing.specs.declared.read.Row.{Row}
 use Rattle.listing.specs.Content.{row_key, rising_above, row_slot, placed, board_with, board_of}
-use Rattle.listing.specs.Read.{Answer, refused, judged, live_in, held_in, row_in, fitting, Rest, with_row, held_last, rest_of, with_live, content_of, ended, said, answer_by, reading}
+use Rattle.listing.specs.Read.{Answer, refused, refusal, judged, live_in, held_in, row_in, fitting, Rest, with_row, held_last, rest_of, with_live, content_of, ended, said, answer_by, reading}
 use Rattle.listing.specs.Loop.{finish, read_from}
 
 -- the lines before `from` are read, and what is left settles the answer a
@@ -79,7 +80,6 @@ module _ {z : Sizes} {s : List ℕ} {a : Answer} {live : ℕ} {rising : Bool} {l
         let d : lines (drop (end + 1) s) ≡ [] = ap lines (drop_of_length-le s o) in
         rw (from_line s from end h e, d) at g.left
 
-    -- well formed or not, it settles the answer
     pub read_last : length s ≤ end + 1 → {held : ℕ} → Some held ≡ held_in (slot_count z - z.pages) (take (end - from) (drop from s))
         → judged z true (rising && eqb n held) (board_with z slots live) ≡ a
     read_last o {held} q =
@@ -90,6 +90,14 @@ module _ {z : Sizes} {s : List ℕ} {a : Answer} {live : ℕ} {rising : Bool} {l
     pub read_unheld : length s ≤ end + 1 → None ≡ held_in (slot_count z - z.pages) (take (end - from) (drop from s)) → refused z 17 ≡ a
     unfolding held_last
     read_unheld o q = ap (λ (x : Option ℕ). finish z live rising last n slots (held_last x)) q ∙ last_line o
+
+    -- well formed or not, it settles the answer
+    pub read_held : length s ≤ end + 1 → (held : Option ℕ) → held ≡ held_in (slot_count z - z.pages) (take (end - from) (drop from s))
+        → {formed : Bool} → formed ≡ is_some held → {m : ℕ} → m ≡ unwrap_or held 0
+        → judged z formed (rising && eqb n m) (board_with z slots live) ≡ a
+    unfolding judged refusal
+    read_held o None q t m = rw t (read_unheld o q)
+    read_held o (Some held) q t m = rw (t, m) (read_last o q)
 
     -- a line before the last
     row_line : end + 1 < length s

@@ -7,7 +7,7 @@ use Rattle.lend.specs.Tables.{Tables}
 use Rattle.text.proofs.Seeking.{line_within}
 use Rattle.listing.specs.Read.{held_in}
 use Rattle.listing.proofs.Said.{let_through, key_below}
-use Rattle.listing.proofs.Loop.{read_start, read_none, read_last, read_unheld, read_turn, read_bad}
+use Rattle.listing.proofs.Loop.{read_start, read_none, read_held, read_turn, read_bad}
 use Rattle.board.specs.Model.{sizes}
 use Rattle.board_listing.proofs.Examined.{lost}
 use Rattle.std.proofs.lemmas.Result.{err_from_is_err_and}
@@ -27,22 +27,17 @@ slice_bounds-held_line-end g c =
     let h : c.line_end-end.result ≤ length c.args.text.now = line_within _ _ _ c.line_end-end.ensures (search rules) in
     search rules
 
-pub returns-in_err-held : goal.returns-in_err-held
-returns-in_err-held g c =
-    let p = err_from_is_err_and c.from_residual.result c.from_residual.ensures.1 in
-    let q = lost c.held_line.result c.in_err-held.ensures.value in
-    let most = ap (λ (n : ℕ). held_in (n - g.row.PAGES) (take (c.line_end-end.result - c.loop-from.from) (drop c.loop-from.from c.args.text.now))) c.args.shape.is_model.slots_are in
-    rw (p.1, p.2, q.1) (read_unheld c.loop-from.invariant (search rules) c.line_end-end.ensures (search rules) (q.0 ∙ (c.held_line.ensures ∙ most)))
-
 pub returns-then-text-end : goal.returns-then-text-end
 returns-then-text-end g c =
     let most = ap (λ (n : ℕ). held_in (n - g.row.PAGES) (take (c.line_end-end.result - c.loop-from.from) (drop c.loop-from.from c.args.text.now))) c.args.shape.is_model.slots_are in
     c.board_with.ensures
-    ∙ read_last c.loop-from.invariant (search rules) c.line_end-end.ensures (search rules) (sym c.in_ok-held.ensures.ok_part ∙ (c.held_line.ensures ∙ most))
+    ∙ read_held c.loop-from.invariant (search rules) c.line_end-end.ensures (search rules) _ (c.held_line-held.ensures ∙ most)
+    c.is_some-formed.ensures
+    c.unwrap_or.ensures
 
 pub returns-in_err-row : goal.returns-in_err-row
 returns-in_err-row g c =
-    let p = err_from_is_err_and c.from_residual-in_err-row.result c.from_residual-in_err-row.ensures.1 in
+    let p = err_from_is_err_and c.from_residual.result c.from_residual.ensures.1 in
     let q = lost c.row_of.result c.in_err-row.ensures.value in
     rw (p.1, p.2, q.1) (read_bad c.loop-from.invariant (search rules) c.line_end-end.ensures (search rules) (q.0 ∙ c.row_of.ensures))
 
