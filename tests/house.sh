@@ -222,6 +222,24 @@ pub fn hollow(bytes: &[u8]) -> Option<&[u8]>
 F
 refused contracts.py "board::shape::hollow does not determine what it hands back by reference"
 
+with text/src/number.rt <<'F'
+pub fn hollow(s: &[u8]) -> Option<(u32, &[u8])>
+    ensures { read_off result ≡ number_of s.now }
+{
+    None
+}
+F
+refused contracts.py "text::number::hollow has a contract of a form that is not known"
+
+with board/src/shape.rt <<'F'
+pub fn whole(bytes: &[u8]) -> &[u8]
+    ensures { result ≡ bytes.entry }
+{
+    bytes
+}
+F
+taken
+
 with board/src/shape.rt <<'F'
 struct Reading<'a> {
     bytes: &'a mut [u8],
@@ -269,6 +287,18 @@ refused contracts.py "wants a theorem one_load in code_demands, Unique: one resu
 copy
 sed -i '/^pub one_store :/,/^one_store /s/ × (m ≡ n)$//' "$work/text/crates/code_demands/proofs/Unique.antt"
 refused contracts.py "wants a theorem one_store in code_demands, Unique: one result by stored"
+
+copy
+sed -i '/^pub one_range :/s/range_meant \([rs]\)/range_meant (Some \1)/g' "$work/text/crates/code_demands/proofs/Unique.antt"
+refused contracts.py "wants a theorem one_range in code_demands, Unique: one result by range_meant"
+
+copy
+sed -i '/^pub one_check :/s/answer_of s ≡ meaning/answer_of refusal ≡ meaning/' "$work/text/crates/code_demands/proofs/Unique.antt"
+refused contracts.py "wants a theorem one_check in code_demands, Unique: one result by answer_of"
+
+copy
+sed -i '/^pub one_check :/s/answer_of s ≡ meaning/r ≡ s/' "$work/text/crates/code_demands/proofs/Unique.antt"
+refused contracts.py "wants a theorem one_check in code_demands, Unique: one result by answer_of"
 
 copy
 sed -i 's/\.{tables}/.{nothing as tables}/' "$work/text/crates/calls/src/start.rt"

@@ -8,7 +8,8 @@ and the theorem that shows of each that it loses nothing; it looks whether that 
 - a public function with no contract, with one of another form, or with a `ghost` value;
 - a definition that speaks of the result, or of what was lent as the call leaves it;
 - a result, a field of a result, or a parameter lent for writing, that no clause determines; a result that holds references, where its
-  contract is not an equation of all of it.
+  contract is not an equation of all of it;
+- a theorem that is not there, or is over some of the results alone.
 
 What the ghost of a trait is given is the contract of the trait's function.
 
@@ -35,23 +36,21 @@ VIEWS = {
     'stored': ('r exit exit', *MODEL, 'one_store'),
     'answer_of': ('r', *MODEL, 'one_check'),
     'answer': ('sizes r', *LISTED, 'one_read'),
+    'answered': ('r', *LISTED, 'one_answered'),
     'filled': ('r exit', *LISTED, 'one_written'),
     'listed': ('r exit exit', 'listing_image', 'Listed', 'one_listed'),
     # the memory of a call that has none is the empty list; the image of a call that only reads it is lent for reading
     'left': ('r (entry|exit) (entry|exit|none) exit', *MODEL, 'one_left'),
-    # a number, and the bytes behind the reference that is handed back with it
-    'read_off': ('r( behind)?', 'text', 'Reading', 'one_read_off'),
     # what was lent to a function, as it is
     '≡': ('exit', *MODEL, 'one_value'),
 }
-# views that show what stands behind a reference that is handed back
-BEHIND = {'read_off'}
 # a view that determines a result only beside another one, whose theorem takes both; of a result with no value in it, alone
 BESIDE = {'answer_of': 'range_outcome'}
 NO_VALUE = 'Result<(), Refusal>'
 # structs whose fields are given one by one
 FIELDS = {
     'Lookup': ('r', *MODEL, 'one_lookup'),
+    'Checked': ('r', *MODEL, 'one_checked'),
 }
 # contracts that are records: what their last arguments are; those before them are the definition's
 RECORDS = {
@@ -119,8 +118,9 @@ def equation(head, left):
         partly = view in BESIDE.values() or view in BESIDE and head.result != NO_VALUE
         return ({f'.{view}' if w == 'r' else w for w in what} if what and partly else what), view
     field = re.fullmatch(rf'{RESULT}(\.\w+)', ' '.join(left))
-    if field and head.result in FIELDS:
-        return {field[1]}, head.result
+    struct = head.result.partition('<')[0]
+    if field and struct in FIELDS:
+        return {field[1]}, struct
     return ({found[0][1]} if len(left) == 1 and found[0][0] == 'exit' else None), EXIT
 
 
@@ -163,12 +163,32 @@ def origin(text, name):
     return None
 
 
-def shows_one(statement, view, form):
-    """Whether a theorem goes from the view, or a struct's fields, to an equation for each part of what comes back."""
-    *before, after = statement.split(' → ')
-    equations = [re.fullmatch(r'\(?(\S+) ≡ (\S+?)\)?', part) for part in after.split(' × ')]
-    return (view in re.findall(r'\w+|≡', ' '.join(before)) and len(equations) == len([k for k in form.split() if k not in ('entry', 'sizes')])
-            and all(m and m[1] != m[2] for m in equations))
+def binders(text):
+    """The variables that a theorem or a section of a file is over, and what follows them."""
+    names = set()
+    while m := re.match(r"(?:→ )?[({]([\w' ]+) : ", text):
+        names |= set(m[1].split())
+        text = text[heads.closed(text, re.search(r'[({]', text).start()):].lstrip()
+    return names, text.removeprefix('→ ')
+
+
+def premises_of_any(premises, sides, known):
+    """Whether premises hold of whatever came back: they speak of variables alone, so of no result that is made in one way only, and none is
+    the equation that is to be shown."""
+    words = [re.findall(r"(?<![.\w'])[\w']+", premise) for premise in premises]
+    return not set('()[]{},') & set(''.join(premises)) and all(set(these) <= known and not set(these) <= set(sides) for these in words)
+
+
+def shows_one(statement, view, form, known):
+    """Whether a theorem goes from the view, or a struct's fields, of any two results to an equation for each part of what comes back: known
+    are the variables of the section that it stands in."""
+    own, rest = binders(statement)
+    *before, after = rest.split(' → ')
+    equations = [re.fullmatch(r"\(?([\w']+) ≡ ([\w']+)\)?", part) for part in after.split(' × ')]
+    sides = [side for m in equations if m for side in m.groups()]
+    return (view in re.findall(r'\w+|≡', statement.rpartition(' → ')[0])
+            and len(equations) == len([k for k in form.split() if k not in ('entry', 'sizes')])
+            and len(set(sides)) == 2 * len(equations) and set(sides) <= own and premises_of_any(before, sides, own | known))
 
 
 def statement(proofs, name):
@@ -190,7 +210,8 @@ def theorem(view, text, other):
     except OSError:
         proofs = ''
     said = f'`{name}`', f' ({crate}, {file})'
-    if not shows_one(statement(proofs, name), view, form):
+    sections = set().union(*(binders(m)[0] for m in re.findall(r'(?m)^ *module _ (.*) where$', proofs)))
+    if not shows_one(statement(proofs, name), view, form, sections | {*VIEWS, *RECORDS}):
         return said, [f'wants a theorem {name} in {crate}, {file}: one result by {view}']
     if view in FIELDS or view == EXIT or origin(text, view) == origin(proofs, view) is not None:
         return said, []
@@ -201,7 +222,7 @@ def fields(crate, struct):
     """The fields of a struct of this crate, read from its source."""
     for path in sorted(glob.glob(f'crates/{crate}/src/**/*.rt', recursive=True)):
         text = heads.bare(open(path).read())
-        m = re.search(rf'\bstruct {struct}\s*\{{', text)
+        m = re.search(rf'\bstruct {struct.partition("<")[0]}\s*(?:<[^>]*>)?\s*\{{', text)
         if m:
             return re.findall(r'(\w+)\s*:(?!:)', text[m.end():heads.closed(text, m.end() - 1)])
     return ['?']
@@ -231,7 +252,7 @@ def missing(crate, head, lent, found, holds):
     elif head.result and 'r' not in what:
         yield from (f'the field {f} of its result' for f in fields(crate, head.result) if f not in given) if given else ['its result']
     yield from (f'what it leaves in {p}' for p in lent if p not in what)
-    if holds and not {view for _, _, view in found} & {ITSELF, *BEHIND}:
+    if holds and ITSELF not in {view for _, _, view in found}:
         yield 'what it hands back by reference'
 
 

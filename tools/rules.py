@@ -19,7 +19,8 @@ SIZES = re.compile(r'(?<![\w.-])(8|16|32|64|256|1024|32768|65536)(?:[ui](?:8|16|
 # where the sizes of the models stand, and where such a number is none: the files, the words that it stands in, and what it is
 MODELS = r'\b8,? 32,? 256,? 8\b|\b16,? 64,? 1024,? 16\b'
 NO_SIZES = [
-    ('crates/board/src/shape.rt', rf'Shape<({MODELS})>|PAGE_BYTES: usize = 1024', 'the sizes of both models, said once in the code'),
+    ('crates/board/src/entry.rt crates/board/src/premium.rt', r'(SPACES|PAGES|PLACES): usize = \d+;|8 \* PAGES', 'the sizes of both models, said once in the code; the bytes of a count'),
+    ('crates/board/src/shape.rt', r'PAGE_BYTES: usize = 1024', 'the bytes of a page'),
     ('crates/both_demands/specs/Together.antt', rf'= Board ({MODELS})$', 'and once where a theorem speaks of a board of each'),
     ('crates/board/specs/Model.antt', r'≤ (16|255|256|8192)$', 'what the types of the code can count'),
     ('crates/code_demands/proofs/Models.antt', rf'(Shape|IsModel) ({MODELS})', 'and where they are shown to be the rules\' sizes'),
@@ -30,14 +31,13 @@ NO_SIZES = [
     ('crates/lend/specs/Ranges.antt', r'\(8 when', 'a number of the document\'s table'),
     ('crates/lend/src/refusal.rt', r'Refusal::\w+ => \d+,', 'the same'),
     ('crates/lend/specs/Refusals.antt', r'^number_of \w+ = \d+$|eqb n \d+\)', 'the same'),
-    ('crates/calls/proofs/RangeChecks.antt crates/calls/proofs/RangeRuns.antt', r'\b8\b', 'the same'),
+    ('crates/calls/proofs/RangeChecks.antt', r'\b8\b', 'the same'),
     ('crates/script/specs/Script.antt', r'refuse st 16|input_limit = 65536', 'a number of the table; the length of a script (01)'),
     ('crates/script/src/lib.rt', r'INPUT_LIMIT: usize = 65536|FOR_THE_END: usize = 32', 'the same length; the bytes of two lines'),
-    ('crates/script/*/Bound.antt crates/listing*/proofs/*.antt crates/session/proofs/run/bound/*', r'(\+|≤) (16|32)\b', 'the bytes of a listing\'s first and last line'),
+    ('crates/script/*/Bound.antt crates/listing*/proofs/*.antt', r'(\+|≤) (16|32)\b', 'the bytes of a listing\'s first and last line'),
     ('crates/text*/proofs/*.antt', r'\b32 ∷|≡ 32|spare 8|16 ≤ length', 'the byte of a blank; digits; the shortest line'),
     ('crates/lend_basics/proofs/Rights.antt', r'\b8\b', 'three rights, on both models: their sums are below 8'),
     ('crates/lend_laws/* crates/lend_lending/* crates/lend_summary/* crates/lend_demands/*', r'< 8\b', 'the same'),
-    ('crates/lend_code/proofs/Ranges.antt', r'< 64|\^ 64|k 64', 'the bits of a word of the machine'),
     ('crates/*image/*', r'\b8 \*|[</%] 8\b|\b(count_bytes|first_chunks|cut_as|part) 8\b|\+ 8\]|\[u8; 8\]|\b256\b', 'the eight bytes of a count; the numbers of a byte'),
     ('crates/lend_models/specs/Witness.antt', r'tabulate 16 look|look 16', 'looks at the first pages, which both models have'),
     ('crates/examples_on_k/specs/*', r'\b\d+\b', 'the examples of 01, with the numbers that stand there'),

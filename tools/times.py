@@ -14,7 +14,7 @@ import time
 import models
 
 PAGE = 'docs/PROOF.md'
-ROW = r'(?m)^\| (\w+) \| ([^|]*) \| \d+ \| \d+ \| \d+ \| \d+ \|\n'
+ROW = r'(?m)^\| (\w+) \| ([^|]*) \| \d+ \| \d+ \| \d+ \| [\d-]+ \|\n'
 
 
 def lines(pattern):
