@@ -43,13 +43,15 @@ impl<const SPACES: usize, const PAGES: usize, const SLOTS: usize, const PLACES: 
         false
     }
 
-    // For each page, whether a page on its line is in the set.
+    // For each page, whether a page on its line is in the set. A page that leads to no other is alone on its line.
     pub fn line_has(&self, set: &[bool; SLOTS]) -> [bool; SLOTS]
         ensures { result ≡ line_has (sizes SPACES PAGES PLACES) self.now.slots set.now }
     {
-        let mut found = [false; SLOTS];
+        let mut found = *set;
         for k in 0..SLOTS {
-            found[k] = self.line_meets(k, set);
+            if let Link::Page(..) = self.slots[k].link {
+                found[k] = self.line_meets(k, set);
+            }
         }
         found
     }

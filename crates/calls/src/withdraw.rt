@@ -18,8 +18,8 @@ pub(crate) fn withdraw<
     ensures lost { result ≡ cut_lost (sizes SPACES PAGES PLACES) b.old.slots set.now d }
 {
     let before = b.rights();
+    let after = b.shape.rights_left(before, set, d);
     b.cut(set, d);
-    let after = b.rights();
     b.drop_lost(&before, &after);
     b.shape.losses(&before, &after)
 }

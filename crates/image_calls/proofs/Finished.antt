@@ -19,7 +19,7 @@ use Rattle.image.proofs.Answered.{answered_on, range_finished_refused, range_fin
 use Rattle.calls.specs.Answer.{emptied_of}
 use Rattle.access.specs.declared.translate.Translation.{Translation}
 use Rattle.access.specs.Answers.{beside, translation_reply}
-use Rattle.image_calls.specs.Fields.{fields_of, range_finished}
+use Rattle.image_calls.specs.Fields.{fields_of, translation_fields, range_finished}
 
 -- an answer whose value is told in three fields
 abbrev pub filled : {A : Type 0} → (A → ℕ × ℕ × ℕ) → Result A Refusal → Result (ℕ × ℕ × ℕ) Refusal
@@ -54,7 +54,7 @@ told_on z call image memory o e is f gives r m map-is number-is out-is {n} {imag
     rw (← number-is, ← filled_number f r, ← m-is) finish-is in
     answered_on z call _ _ _ o e is _ _ _ _ _ _ _ finish-is' mem-is out-is
 
--- one field, none, and those of translate
+-- one field, and none
 pub one_field : (r : Result ℕ Refusal) → three (fields_of (filled (λ n. (n, 0, 0)) r)) ≡ three_of (emptied_of r) 0 0
 one_field (Ok n) = refl
 one_field (Err r) = refl
@@ -63,14 +63,12 @@ pub no_field : (r : Result (Unit {0}) Refusal) → three (fields_of (filled (λ 
 no_field (Ok x) = refl
 no_field (Err r) = refl
 
-abbrev pub found_fields : Translation → ℕ × ℕ × ℕ
-found_fields x = (x.address, cond x.hit 1 0, x.links)
-
+-- the number and the fields of translate
 pub found_number : (r : Result Translation Refusal) → answer_of r ≡ (translation_reply r).number
 found_number (Ok x) = refl
 found_number (Err r) = refl
 
-pub found_told : (r : Result Translation Refusal) → three (fields_of (filled found_fields r)) ≡ three_of (translation_reply r).address (cond (translation_reply r).hit 1 0) (translation_reply r).links
+pub found_told : (r : Result Translation Refusal) → three (translation_fields r) ≡ three_of (translation_reply r).address (cond (translation_reply r).hit 1 0) (translation_reply r).links
 found_told (Ok x) = refl
 found_told (Err r) = refl
 

@@ -1,15 +1,28 @@
 // translate, load and store.
 ghost use Rattle.std.specs.Prelude.{◌≡◌, []};
 ghost use Rattle.lend.specs.Calls.{Translate, Load, Store};
+ghost use Rattle.lend.specs.Refusals.{answer_of};
 ghost use Rattle.image.specs.Answered.{left, answer_to};
 ghost use Rattle.board.specs.Model.{sizes};
+ghost use Rattle.image_calls.specs.Fields.{translation_fields};
 
-use crate::finish::finish;
+use crate::finish::{finish, leave};
 use access::load::load as load_on;
 use access::store::store as store_on;
-use access::translate::translate as translate_on;
+use access::translate::{Translation, translate as translate_on};
 use board::Shape;
 use board_image::read::read_image;
+use lend::Refusal;
+
+// The number of a translate, and its fields: the address, whether the page was in the cache, and the links.
+fn told(answer: Result<Translation, Refusal>) -> (u32, (u32, u32, u32))
+    ensures { result ≡ (answer_of answer, translation_fields answer) }
+{
+    match answer {
+        Ok(found) => (0, (found.address, u32::from(found.hit), found.links)),
+        Err(refusal) => (u32::from(refusal), (0, 0, 0)),
+    }
+}
 
 pub fn translate<const SPACES: usize, const PAGES: usize, const SLOTS: usize, const PLACES: usize>(
     shape: Shape<SPACES, PAGES, SLOTS, PLACES>,
@@ -23,8 +36,7 @@ pub fn translate<const SPACES: usize, const PAGES: usize, const SLOTS: usize, co
 {
     let mut b = read_image(shape, image);
     let answer = translate_on(&mut b, space, address, rights);
-    let fields = answer.map(|found| (found.address, u32::from(found.hit), found.links));
-    finish(image, &b, fields, out)
+    leave(image, &b, told(answer), out)
 }
 
 // The memory is only read.

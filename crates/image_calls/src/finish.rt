@@ -12,6 +12,29 @@ use board_image::write::write_image;
 use calls::progress::Progress;
 use lend::Refusal;
 
+// The out fields are filled, and the board is written where the number is 0. A reply is the number, and the fields.
+pub(crate) fn leave<
+    const SPACES: usize,
+    const PAGES: usize,
+    const SLOTS: usize,
+    const PLACES: usize,
+>(
+    image: &mut [u8],
+    b: &Board<SPACES, PAGES, SLOTS, PLACES>,
+    reply: (u32, (u32, u32, u32)),
+    out: &mut [u32; 4],
+) -> u32
+    ensures { left result image.new [] out.new ≡ finishing (sizes SPACES PAGES PLACES) (tables b.now) reply.0 reply.1.0 reply.1.1 reply.1.2 image.old }
+{
+    let (number, (first, second, third)) = reply;
+    *out = [first, second, third, 0];
+    if number != 0 {
+        return number;
+    }
+    write_image(image, b);
+    0
+}
+
 // A call that is done fills the out fields and writes the board; a refused one leaves the image, and every field 0.
 pub(crate) fn finish<
     const SPACES: usize,
@@ -27,15 +50,8 @@ pub(crate) fn finish<
     ensures { left result image.new [] out.new ≡ finishing (sizes SPACES PAGES PLACES) (tables b.now) (answer_of answer) (fields_of answer).0 (fields_of answer).1 (fields_of answer).2 image.old }
 {
     match answer {
-        Ok((first, second, third)) => {
-            *out = [first, second, third, 0];
-            write_image(image, b);
-            0
-        }
-        Err(refusal) => {
-            *out = [0; 4];
-            u32::from(refusal)
-        }
+        Ok(fields) => leave(image, b, (0, fields), out),
+        Err(refusal) => leave(image, b, (u32::from(refusal), (0, 0, 0)), out),
     }
 }
 

@@ -75,6 +75,22 @@ module _ (z : Sizes) (b : List Slot) (s : List Bool) (k : ℕ) where
       pub meeting_up : {x y up : ℕ} → has s at ≡ false → (slot_at b at).link ≡ Page x y → up ≡ key z x y → Meeting n up (turn + 1)
       meeting_up e l u = record { slots_long = w.slots_long; set_long = w.set_long; same = rw u (rw (e, l) at step) }
 
+  -- a page whose link leads to no page is alone on its line
+  pub alone_met : 1 ≤ z.spaces → ((x y : ℕ) → (slot_at b k).link ≡ Page x y → ⊥) → has s k ≡ any (has s) (line_of z (slot_at b) k)
+  alone_met one other =
+      go (has s k) (any (has s) above) (no_parent z (has s) (slot_at b k).link (λ q. line z (slot_at b) (z.spaces - 1) q) other)
+      ∙ sym (ap (λ (m : ℕ). any (has s) (line z (slot_at b) m k)) first ∙ any_line z (slot_at b) (has s) (z.spaces - 1) k)
+    where
+      first : z.spaces ≡ suc (z.spaces - 1)
+      first = omega (arith, one)
+
+      above : List ℕ
+      above = onward (parent z (slot_at b) k) (λ q. line z (slot_at b) (z.spaces - 1) q)
+
+      go : (x y : Bool) → y ≡ false → x ≡ (x || y)
+      go true y e = refl
+      go false y e = sym e
+
 -- ── the frame at the end of a line ───────────────────────────────────────
 module _ (z : Sizes) (b : List Slot) (k : ℕ) where
   -- what is left has the frame of k, and the links that k has more than the walk has gone over
