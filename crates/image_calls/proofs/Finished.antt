@@ -17,9 +17,8 @@ use Rattle.image.specs.Image.{board_from, written}
 use Rattle.image.specs.Answered.{left, three_of, out_of, answer_to, finishing}
 use Rattle.image.proofs.Answered.{answered_on, range_finished_refused, range_finished_done}
 use Rattle.calls.specs.Answer.{emptied_of}
-use Rattle.access.specs.declared.translate.Translation.{Translation}
-use Rattle.access.specs.Answers.{beside, translation_reply}
-use Rattle.image_calls.specs.Fields.{fields_of, translation_fields, range_finished}
+use Rattle.access.specs.Answers.{beside}
+use Rattle.image_calls.specs.Fields.{fields_of, range_finished}
 
 -- an answer whose value is told in three fields
 abbrev pub filled : {A : Type 0} → (A → ℕ × ℕ × ℕ) → Result A Refusal → Result (ℕ × ℕ × ℕ) Refusal
@@ -62,15 +61,6 @@ one_field (Err r) = refl
 pub no_field : (r : Result (Unit {0}) Refusal) → three (fields_of (filled (λ x. (0, 0, 0)) r)) ≡ three_of 0 0 0
 no_field (Ok x) = refl
 no_field (Err r) = refl
-
--- the number and the fields of translate
-pub found_number : (r : Result Translation Refusal) → answer_of r ≡ (translation_reply r).number
-found_number (Ok x) = refl
-found_number (Err r) = refl
-
-pub found_told : (r : Result Translation Refusal) → three (translation_fields r) ≡ three_of (translation_reply r).address (cond (translation_reply r).hit 1 0) (translation_reply r).links
-found_told (Ok x) = refl
-found_told (Err r) = refl
 
 -- the number of start
 pub other_length : (b : Bool) → bool_byte (not b) ≡ cond b 0 1

@@ -4,19 +4,18 @@ use Rattle.std.specs.declared.result.Result.{Result}
 use Rattle.std.specs.declared.result.Result.TheVariants.{Ok, Err}
 use Rattle.lend.specs.declared.refusal.Refusal.{Refusal}
 use Rattle.lend.specs.Sizes.{Sizes}
+use Rattle.lend.specs.Calls.{Reply}
 use Rattle.lend.specs.Ranges.{RangeOutcome}
 use Rattle.image.specs.Answered.{Left, range_finishing}
-use Rattle.access.specs.declared.translate.Translation.{Translation}
 
 -- the out fields that an answer fills: a refusal's are 0
 abbrev pub fields_of : Result (ℕ × ℕ × ℕ) Refusal → ℕ × ℕ × ℕ
 fields_of (Ok x) = x
 fields_of (Err r) = (0, 0, 0)
 
--- those of a translate
-abbrev pub translation_fields : Result Translation Refusal → ℕ × ℕ × ℕ
-translation_fields (Ok x) = (x.address, cond x.hit 1 0, x.links)
-translation_fields (Err r) = (0, 0, 0)
+-- of a translate's reply: the number, and the out fields
+abbrev pub translate_told : Reply → ℕ × (ℕ × ℕ × ℕ)
+translate_told r = (r.number, (r.address, cond r.hit 1 0, r.links))
 
 -- of a call over ranges, by its outcome
 abbrev pub range_finished : Sizes → RangeOutcome → List ℕ → Left

@@ -1,10 +1,10 @@
 // translate, load and store.
 ghost use Rattle.std.specs.Prelude.{◌≡◌, []};
 ghost use Rattle.lend.specs.Calls.{Translate, Load, Store};
-ghost use Rattle.lend.specs.Refusals.{answer_of};
 ghost use Rattle.image.specs.Answered.{left, answer_to};
 ghost use Rattle.board.specs.Model.{sizes};
-ghost use Rattle.image_calls.specs.Fields.{translation_fields};
+ghost use Rattle.access.specs.Answers.{translation_reply};
+ghost use Rattle.image_calls.specs.Fields.{translate_told};
 
 use crate::finish::{finish, leave};
 use access::load::load as load_on;
@@ -16,7 +16,7 @@ use lend::Refusal;
 
 // The number of a translate, and its fields: the address, whether the page was in the cache, and the links.
 fn told(answer: Result<Translation, Refusal>) -> (u32, (u32, u32, u32))
-    ensures { result ≡ (answer_of answer, translation_fields answer) }
+    ensures { result ≡ translate_told (translation_reply answer) }
 {
     match answer {
         Ok(found) => (0, (found.address, u32::from(found.hit), found.links)),
